@@ -1,0 +1,5 @@
+pub mod Calls
+pub mod Decoder
+pub mod Frames
+pub mod Front
+pub mod Packets
