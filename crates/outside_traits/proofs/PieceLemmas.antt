@@ -90,7 +90,7 @@ reads_at pieces left piece buf room at from n place is some count front =
     let after : pieces_from pieces at (from + n) ≡ filled (cut_by n left) = pieces_from-on pieces left piece at from n place is in
     record {
       moves = subst (λ new. Moves (octets_of left) (octets_of new) buf n) (sym after)
-      (subst (λ old. Moves (octets_of old) (octets_of (filled (cut_by n old))) buf n) (sym here.1) (moves (drop from piece) buf rest n (omega arith) (omega arith) front));
+          (subst (λ old. Moves (octets_of old) (octets_of (filled (cut_by n old))) buf n) (sym here.1) (moves (drop from piece) buf rest n (omega arith) (omega arith) front));
       some = omega arith;
       gives = count ∙ ap (count_given room) (sym here.1);
       after = after;

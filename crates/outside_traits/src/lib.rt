@@ -12,6 +12,8 @@ mod mem_sink;
 mod mem_source;
 mod sink;
 mod source;
+#[cfg(test)]
+mod tests;
 
 pub use failed::Failed;
 pub use mem_sink::MemSink;
