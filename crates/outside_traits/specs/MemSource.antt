@@ -1,5 +1,5 @@
 -- A source in memory.
-use Rattle.std.specs.Prelude.{◌≡◌, ℕ, ◌+◌, ◌<◌, min, Bool, true, false, List, [], ◌∷◌, length, drop, filter, flat_map, slice_get, IfSome, Result, Ok, Err}
+use Rattle.std.specs.Prelude.{◌≡◌, ℕ, ◌<◌, min, Bool, true, false, List, [], ◌∷◌, length, drop, filter, flat_map, slice_get, IfSome, Result, Ok, Err}
 use Rattle.outside_traits.specs.Faults.{count_after, raised}
 use Rattle.outside_traits.specs.Source.{ends}
 use Rattle.outside_traits.specs.declared.failed.Failed.{Failed}

@@ -1,5 +1,5 @@
 -- What a write does to the octets that are written.
-use Rattle.std.specs.Prelude.{◌≡◌, ℕ, List, ◌++◌, length, take, Option, Result, Ok, Err}
+use Rattle.std.specs.Prelude.{◌≡◌, ℕ, List, ◌++◌, take, Option, Result, Ok, Err}
 use Rattle.outside_traits.specs.Told.{BothTold}
 use Rattle.outside_traits.specs.declared.failed.Failed.{Failed}
 use Rattle.outside_traits.specs.declared.sink.CutShort.{CutShort}

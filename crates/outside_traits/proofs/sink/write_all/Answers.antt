@@ -1,4 +1,4 @@
-use Rattle.std.proofs.Common.{◌≡◌, ◌≤◌, ◌+◌, Ok, length, drop, rules, length-drop, arith}
+use Rattle.std.proofs.Common.{Ok, drop, rules, length-drop, arith}
 use Rattle.std.proofs.lemmas.Grind.{common_steps}
 use Rattle.outside_traits.specs.Sink.{Writes}
 use Rattle.outside_traits.proofs.WriteLemmas.{adds_on}
