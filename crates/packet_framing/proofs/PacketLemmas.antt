@@ -5,7 +5,6 @@ use Rattle.std.proofs.lemmas.Bool.{cases_lt, leb-true, le-leb, leb-false, lt-leb
 use Rattle.std.proofs.lemmas.List.{take-append-le, drop-append-le, take_at, drop_at}
 use Rattle.std.proofs.lemmas.List.Elements.{All-head, All-tail}
 use Rattle.packet_framing.specs.Packets.{Split, header_value, payload_of, first_packet, after_first, split_after, packets_up_to, packets, after_payloads, IsBad, IsUnfinished}
-use Rattle.packet_framing.specs.Calls.{Call, fed, gave, said_not_yet, said_bad_header, Runs, all_fed, all_given}
 use Rattle.packet_framing.specs.Frames.{header, packet_of, frames}
 use Rattle.packet_framing.proofs.HeaderLemmas.{header-of_some, not_digits-of_none, header_value-header, length-header}
 
@@ -20,7 +19,7 @@ unguarded true x e = absurd (cc)
 unguarded false x e = refl
 
 -- what a packet at the front is
-pub record Front (octets : List ℕ) (taken : List ℕ × List ℕ) : Type 0 where
+pub record WholePacket (octets : List ℕ) (taken : List ℕ × List ℕ) : Type 0 where
   pub count : ℕ
   pub header : header_value (take 6 octets) ≡ Some count
   pub room : 6 + count ≤ length octets
@@ -37,21 +36,21 @@ payload_some octets (Some n) taken e =
 pub six_octets : (octets : List ℕ) (n : ℕ) → header_value (take 6 octets) ≡ Some n → 6 ≤ length octets
 six_octets octets n e = let h = header-of_some (take 6 octets) n e in let six = h.six in omega (arith, length-take 6 octets)
 
-pub front-of_some : (octets rest payload : List ℕ) → first_packet octets ≡ Some (payload, rest) → Front octets (payload, rest)
+pub whole-of_some : (octets rest payload : List ℕ) → first_packet octets ≡ Some (payload, rest) → WholePacket octets (payload, rest)
 unfolding first_packet
-front-of_some octets rest payload e =
+whole-of_some octets rest payload e =
     let p = payload_some (drop 6 octets) (header_value (take 6 octets)) (payload, rest) e in
     let six = six_octets octets p.0 p.1 in
     record { count = p.0; header = p.1; room = omega (arith, p.2, length-drop 6 octets); is = p.3 }
 
-pub some-of_front : (octets : List ℕ) (taken : List ℕ × List ℕ) → Front octets taken → first_packet octets ≡ Some taken
+pub some-of_whole : (octets : List ℕ) (taken : List ℕ × List ℕ) → WholePacket octets taken → first_packet octets ≡ Some taken
 unfolding first_packet
-some-of_front octets taken f =
+some-of_whole octets taken f =
     let room : leb f.count (length (drop 6 octets)) ≡ true = le-leb _ _ (let r = f.room in omega (arith, length-drop 6 octets)) in
     rw (f.header, room, f.is) refl
 
 grown : (octets more : List ℕ) (taken : List ℕ × List ℕ) (n : ℕ) → header_value (take 6 octets) ≡ Some n → 6 + n ≤ length octets
-    → taken ≡ (take n (drop 6 octets), drop n (drop 6 octets)) → Front (octets ++ more) (taken.0, taken.1 ++ more)
+    → taken ≡ (take n (drop 6 octets), drop n (drop 6 octets)) → WholePacket (octets ++ more) (taken.0, taken.1 ++ more)
 grown octets more taken n header long is =
     let six : 6 ≤ length octets = omega arith in
     let room : n ≤ length (drop 6 octets) = omega (arith, length-drop 6 octets) in
@@ -65,13 +64,13 @@ grown octets more taken n header long is =
 -- octets that come later do not change the packet at the front
 pub first_packet-append : (octets more payload rest : List ℕ) → first_packet octets ≡ Some (payload, rest) → first_packet (octets ++ more) ≡ Some (payload, rest ++ more)
 first_packet-append octets more payload rest e =
-    let f = front-of_some octets rest payload e in
-    some-of_front (octets ++ more) (payload, rest ++ more) (grown octets more (payload, rest) f.count f.header f.room f.is)
+    let f = whole-of_some octets rest payload e in
+    some-of_whole (octets ++ more) (payload, rest ++ more) (grown octets more (payload, rest) f.count f.header f.room f.is)
 
 -- what a packet at the front leaves is shorter
 pub shorter : (octets payload rest : List ℕ) → first_packet octets ≡ Some (payload, rest) → length rest + 6 ≤ length octets
 shorter octets payload rest e =
-    let f = front-of_some octets rest payload e in
+    let f = whole-of_some octets rest payload e in
     let r = f.room in
     let is : rest ≡ drop f.count (drop 6 octets) = ap (λ (t : List ℕ × List ℕ). t.1) f.is in
     rw is (omega (arith, length-drop f.count (drop 6 octets), length-drop 6 octets))
@@ -199,33 +198,19 @@ packets-bad octets more bad =
     let rest = (packets octets).rest in
     packets-append octets more ∙ rw (packets-none (rest ++ more) (first_packet-bad (rest ++ more) (bad-append rest more bad)), append-nil (packets octets).payloads) refl
 
--- ---- the calls of a decoder
-
--- the payloads given are the first ones, and the octets kept hold the others and the rest
-pub packets-runs : (kept : List ℕ) (calls : List Call) (last : List ℕ) → Runs kept calls last
-    → packets (kept ++ all_fed calls) ≡ after_payloads (all_given calls) (packets last)
-packets-runs kept [] last r = rw (append-nil kept, r) refl
-packets-runs kept (fed piece ∷ calls) last r = rw (← append_assoc kept piece (all_fed calls)) (packets-runs (kept ++ piece) calls last r)
-packets-runs kept (gave payload ∷ calls) last r =
-    let rest = after_first kept in
-    packets-some (kept ++ all_fed calls) payload (rest ++ all_fed calls) (first_packet-append kept (all_fed calls) payload rest r.0)
-    ∙ ap (after_payloads (payload ∷ [])) (packets-runs rest calls last r.1)
-packets-runs kept (said_not_yet ∷ calls) last r = packets-runs kept calls last r.1
-packets-runs kept (said_bad_header ∷ calls) last r = packets-runs kept calls last r.1
-
 -- ---- packets that are written
 
 pub first_packet-packet_of : (payload more : List ℕ) → length payload ≤ 16777215 → first_packet (packet_of payload ++ more) ≡ Some (payload, more)
 first_packet-packet_of payload more small =
     let head = header (length payload) in
     let six : length head ≡ 6 = length-header (length payload) in
-    let is_whole : Front (head ++ (payload ++ more)) (payload, more) = record {
+    let is_whole : WholePacket (head ++ (payload ++ more)) (payload, more) = record {
       count = length payload;
       header = rw (take_at head (payload ++ more) 6 six) (header_value-header (length payload) small);
       room = omega (arith, length-append head (payload ++ more), length-append payload more);
       is = rw (drop_at head (payload ++ more) 6 six, take_at payload more (length payload) refl, drop_at payload more (length payload) refl) refl;
     } in
-    ap first_packet (append_assoc head payload more) ∙ some-of_front (head ++ (payload ++ more)) (payload, more) is_whole
+    ap first_packet (append_assoc head payload more) ∙ some-of_whole (head ++ (payload ++ more)) (payload, more) is_whole
 
 -- packets at the front are read as their payloads
 pub packets-frames : (payloads : List (List ℕ)) (more : List ℕ) → All (λ payload. length payload ≤ 16777215) payloads → packets (frames payloads ++ more) ≡ after_payloads payloads (packets more)
@@ -235,3 +220,34 @@ packets-frames (payload ∷ payloads) more small =
     let first = first_packet-packet_of payload (frames payloads ++ more) (All-head fits payload payloads small) in
     ap packets (append_assoc (packet_of payload) (frames payloads) more) ∙ packets-some (packet_of payload ++ (frames payloads ++ more)) payload (frames payloads ++ more) first
     ∙ ap (after_payloads (payload ∷ [])) (packets-frames payloads more (All-tail fits payload payloads small))
+
+-- ---- lengths
+
+pub first_packet-length : (octets payload rest : List ℕ) → first_packet octets ≡ Some (payload, rest) → (length payload ≤ 16777215) × (length octets ≡ 6 + length payload + length rest)
+first_packet-length octets payload rest e =
+    let f = whole-of_some octets rest payload e in
+    let room = f.room in
+    let small = (header-of_some (take 6 octets) f.count f.header).small in
+    let given : payload ≡ take f.count (drop 6 octets) = ap (λ (t : List ℕ × List ℕ). t.0) f.is in
+    let left : rest ≡ drop f.count (drop 6 octets) = ap (λ (t : List ℕ × List ℕ). t.1) f.is in
+    let count : length payload ≡ f.count = omega (arith, ap length given, length-take f.count (drop 6 octets), length-drop 6 octets) in
+    (omega arith, omega (arith, ap length left, length-drop f.count (drop 6 octets), length-drop 6 octets))
+
+-- octets that are no whole packet do not reach the end of the one that they begin
+below_whole : (octets : List ℕ) (n : ℕ) → first_packet octets ≡ None → (6 ≤ length octets → header_value (take 6 octets) ≡ Some n) → length octets < 6 + n
+below_whole octets n none header = elim (cases_lt (length octets) (6 + n)) [
+  | inl short ↦ short
+  | inr long ↦
+      let whole : WholePacket octets (take n (drop 6 octets), drop n (drop 6 octets)) = record { count = n; header = header (omega arith); room = long; is = refl } in
+      absurd (cc (none, some-of_whole octets (take n (drop 6 octets), drop n (drop 6 octets)) whole))
+]
+
+-- what is left of the octets that completed a packet is shorter than they are
+pub first_packet-completed : (octets more payload rest : List ℕ) → first_packet octets ≡ None → first_packet (octets ++ more) ≡ Some (payload, rest) → length rest < length more
+first_packet-completed octets more payload rest none e =
+    let f = whole-of_some (octets ++ more) rest payload e in
+    let sum = first_packet-length (octets ++ more) payload rest e in
+    let room = f.room in
+    let below = below_whole octets f.count none (λ six. rw (← take-append-le 6 octets more six) f.header) in
+    let left : rest ≡ drop f.count (drop 6 (octets ++ more)) = ap (λ (t : List ℕ × List ℕ). t.1) f.is in
+    rw left (omega (arith, length-drop f.count (drop 6 (octets ++ more)), length-drop 6 (octets ++ more), length-append octets more))

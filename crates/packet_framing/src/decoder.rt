@@ -112,6 +112,7 @@ impl Decoder {
         ensures gives { Gives self.old result }
         ensures not_yet { (result ≡ Next.NotYet) ↔ IsUnfinished self.old }
         ensures bad_header { (result ≡ Next.BadHeader) ↔ IsBad self.old }
+        ensures not_yet_length { result ≡ Next.NotYet → length self.old < 6 + 0xFFFFFF }
     {
         let kept = &self.buffer[self.start..];
         match front_of(kept) {

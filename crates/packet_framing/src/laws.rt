@@ -18,9 +18,14 @@ pub fn later_octets()
         → packets (octets ++ more) ≡ record { payloads = (packets octets).payloads; rest = (packets octets).rest ++ more } }
 {}
 
-/// An unfinished packet is shorter than the longest packet.
-pub fn unfinished_length()
-    ensures { (octets : List ℕ) → IsUnfinished octets → length octets < 6 + 0xFFFFFF }
+/// How long a packet is, how many octets an unfinished one has at most, and how many stay when later octets complete it: fewer than
+/// those.
+pub fn lengths()
+    ensures whole { (octets payload rest : List ℕ) → first_packet octets ≡ Some (payload, rest)
+        → (length payload ≤ 0xFFFFFF) × (length octets ≡ 6 + length payload + length rest) }
+    ensures unfinished { (octets : List ℕ) → IsUnfinished octets → length octets < 6 + 0xFFFFFF }
+    ensures completed { (octets more payload rest : List ℕ) → first_packet octets ≡ None
+        → first_packet (octets ++ more) ≡ Some (payload, rest) → length rest < length more }
 {}
 
 /// In whatever order a decoder is fed and asked: what it gave are the first payloads of all that it was fed, and what it keeps holds

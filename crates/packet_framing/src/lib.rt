@@ -16,5 +16,5 @@ mod pieces;
 pub use decoder::{Decoder, Next};
 pub use framing::{FrameFault, frame};
 pub use header::header_of;
-pub use laws::{any_calls, frames_are_read, later_octets, packet_by_packet, unfinished_length};
+pub use laws::{any_calls, frames_are_read, later_octets, lengths, packet_by_packet};
 pub use pieces::{Decoded, decode_pieces};

@@ -1,6 +1,7 @@
 use Rattle.std.proofs.Common.{[], inl, inr, ◌∙◌, append-nil}
 use Rattle.packet_framing.specs.Calls.{all_given}
-use Rattle.packet_framing.proofs.PacketLemmas.{packets-runs, packets-none, first_packet-bad}
+use Rattle.packet_framing.proofs.CallLemmas.{packets-runs}
+use Rattle.packet_framing.proofs.PacketLemmas.{packets-none, first_packet-bad}
 use Rattle.packet_framing.proofs.laws.any_calls.Goals as goal
 
 pub returns-clause-first : goal.returns-clause-first
