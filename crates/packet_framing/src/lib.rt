@@ -12,6 +12,8 @@ mod framing;
 mod header;
 mod laws;
 mod pieces;
+#[cfg(test)]
+mod tests;
 
 pub use decoder::{Decoder, Next};
 pub use framing::{FrameFault, frame};
