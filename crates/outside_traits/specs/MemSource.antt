@@ -1,16 +1,14 @@
 -- A source in memory.
 use Rattle.std.specs.Prelude.{◌≡◌, ℕ, ◌<◌, min, Bool, true, false, List, [], ◌∷◌, length, drop, filter, flat_map, slice_get, IfSome, Result, Ok, Err}
-use Rattle.outside_traits.specs.Faults.{count_after, raised}
+use Rattle.outside_traits.specs.Calls.{calls_after}
 use Rattle.outside_traits.specs.Source.{ends}
+use Rattle.outside_traits.specs.declared.calls.Calls.{Calls}
 use Rattle.outside_traits.specs.declared.failed.Failed.{Failed}
 
--- the pieces that are left, none of them empty and the first as far as it is not read; the numbers of the calls that fail, from 1;
--- how many calls were made, and how many failed; whether the newest met the end
+-- the pieces that are left, none of them empty and the first as far as it is not read; the calls; whether the newest met the end
 pub record SourceState : Type 0 where
   pub pieces : List (List ℕ)
-  pub fail_at : List ℕ
-  pub calls : ℕ
-  pub faults : ℕ
+  pub calls : Calls
   pub ended : Bool
 
 -- the octets of pieces, in order
@@ -47,13 +45,7 @@ pieces_after pieces (Err _) = pieces
 
 -- the state after a read with this answer
 abbrev pub after_read : SourceState → Result ℕ Failed → SourceState
-after_read old result = record {
-  pieces = pieces_after old.pieces result;
-  fail_at = old.fail_at;
-  calls = raised old.calls;
-  faults = count_after old.faults result;
-  ended = ends result;
-}
+after_read old result = record { pieces = pieces_after old.pieces result; calls = calls_after old.calls result; ended = ends result }
 
 -- the first octet of what is left stands at this place
 pub record IsAt (pieces left : List (List ℕ)) (at from : ℕ) : Type 0 where

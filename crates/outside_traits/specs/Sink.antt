@@ -13,7 +13,7 @@ AddsIfOk (Err _) piece old new = new ≡ old
 abbrev pub Writes : Option (List ℕ) → Option (List ℕ) → Result ℕ Failed → List ℕ → Type 0
 Writes old new result piece = BothTold old new (AddsIfOk result piece)
 
--- how many octets of a piece were taken: all of them, or those before a failure
-abbrev pub count_taken : Result Unit CutShort → ℕ → ℕ
-count_taken (Ok _) all = all
-count_taken (Err cut) all = cut.taken
+-- what was taken of a piece: the whole, or the octets before a failure
+abbrev pub part_taken : Result Unit CutShort → List ℕ → List ℕ
+part_taken (Ok _) piece = piece
+part_taken (Err cut) piece = take cut.taken piece

@@ -4,9 +4,10 @@
 //! 2^64 - 1; that a read moves octets from the front of what is left to the front of the buffer; and that a write adds octets of
 //! the front of the piece to what is written. A device may keep its octets to itself: what is left and what is written is told by
 //! devices in memory, and by others not. The definitions stand in `specs/Faults.antt`, `specs/Told.antt`, `specs/Source.antt` and
-//! `specs/Sink.antt`, those of the devices in memory in `specs/MemSource.antt` and `specs/MemSink.antt`.
+//! `specs/Sink.antt`, those of the devices in memory in `specs/Calls.antt`, `specs/MemSource.antt` and `specs/MemSink.antt`.
 #![tactic(auto)]
 
+mod calls;
 mod failed;
 mod mem_sink;
 mod mem_source;

@@ -3,6 +3,7 @@ ghost use Rattle.outside_traits.specs.Faults.{HasCause, raised};
 ghost use Rattle.outside_traits.specs.MemSink.{after_finish, after_write};
 ghost use Rattle.outside_traits.specs.Sink.{Writes};
 
+use crate::calls::Calls;
 use crate::{Failed, Sink};
 use lisp_data::Rows;
 use std::alloc::Global;
@@ -14,9 +15,7 @@ use std::marker::Model;
 pub struct MemSink {
     pub taken: Rows<u8>,
     at_most: usize,
-    fail_at: Rows<u64>,
-    calls: u64,
-    faults: u64,
+    calls: Calls,
 }
 
 impl Model for MemSink {
@@ -25,7 +24,7 @@ impl Model for MemSink {
 
     ghost Value = { SinkState };
 
-    ghost view = { λ m. record { taken = m.taken; at_most = m.at_most; fail_at = m.fail_at; calls = m.calls; faults = m.faults } };
+    ghost view = { λ m. record { taken = m.taken; at_most = m.at_most; calls = m.calls } };
 
     ghost invariant = { λ m. 1 ≤ m.at_most };
 }
@@ -35,14 +34,12 @@ impl MemSink {
     /// `finish` are counted together, from 1.
     pub fn new(alloc: Global, at_most: usize, fail_at: Rows<u64>) -> MemSink
         requires { 1 ≤ at_most }
-        ensures { result ≡ record { taken = []; at_most = at_most; fail_at = fail_at; calls = 0; faults = 0 } }
+        ensures { result ≡ record { taken = []; at_most = at_most; calls = record { fail_at = fail_at; made = 0; faults = 0 } } }
     {
         MemSink {
             taken: Rows::new(alloc),
             at_most,
-            fail_at,
-            calls: 0,
-            faults: 0,
+            calls: Calls::new(fail_at),
         }
     }
 }
@@ -52,41 +49,36 @@ impl Sink for MemSink {
 
     ghost written = { λ s. Some s.taken };
 
-    ghost faults = { λ s. s.faults };
+    ghost faults = { λ s. s.calls.faults };
 
     /// A write that finds no memory fails too.
     fn write(&mut self, piece: &[u8]) -> Result<usize, Failed>
         requires { 0 < length piece.now }
         ensures bound { IfOk result (λ n. (0 < n) × (n ≤ length piece.now)) }
         ensures bytes { Writes (Some self.old.taken) (Some self.new.taken) result piece.now }
-        ensures cause { HasCause self.old.faults self.new.faults result }
-        ensures fails { Contains self.old.fail_at (raised self.old.calls) → IsErr result }
+        ensures cause { HasCause self.old.calls.faults self.new.calls.faults result }
+        ensures fails { Contains self.old.calls.fail_at (raised self.old.calls.made) → IsErr result }
         ensures takes { IfOk result (λ n. n ≡ min self.old.at_most (length piece.now)) }
         ensures after { self.new ≡ after_write self.old result piece.now }
     {
-        self.calls = self.calls.saturating_add(1);
-        if self.fail_at.as_slice().contains(&self.calls) {
-            self.faults = self.faults.saturating_add(1);
-            return Err(Failed);
+        if self.calls.next_fails() {
+            return Err(self.calls.fault());
         }
         let n = piece.len().min(self.at_most);
         if self.taken.extend(&piece[..n]).is_err() {
-            self.faults = self.faults.saturating_add(1);
-            return Err(Failed);
+            return Err(self.calls.fault());
         }
         Ok(n)
     }
 
     fn finish(&mut self) -> Result<(), Failed>
         ensures same { Some self.new.taken ≡ Some self.old.taken }
-        ensures cause { HasCause self.old.faults self.new.faults result }
-        ensures fails { IsErr result ↔ Contains self.old.fail_at (raised self.old.calls) }
+        ensures cause { HasCause self.old.calls.faults self.new.calls.faults result }
+        ensures fails { IsErr result ↔ Contains self.old.calls.fail_at (raised self.old.calls.made) }
         ensures after { self.new ≡ after_finish self.old result }
     {
-        self.calls = self.calls.saturating_add(1);
-        if self.fail_at.as_slice().contains(&self.calls) {
-            self.faults = self.faults.saturating_add(1);
-            return Err(Failed);
+        if self.calls.next_fails() {
+            return Err(self.calls.fault());
         }
         Ok(())
     }

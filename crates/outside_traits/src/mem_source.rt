@@ -3,6 +3,7 @@ ghost use Rattle.outside_traits.specs.Faults.{HasCause, raised};
 ghost use Rattle.outside_traits.specs.MemSource.{after_read, count_given, filled, octets_of, pieces_from, IsAt};
 ghost use Rattle.outside_traits.specs.Source.{Reads, ends};
 
+use crate::calls::Calls;
 use crate::{Failed, Source};
 use lisp_data::Rows;
 use std::marker::Model;
@@ -14,9 +15,7 @@ pub struct MemSource {
     pieces: Rows<Rows<u8>>,
     at: usize,
     from: usize,
-    fail_at: Rows<u64>,
-    calls: u64,
-    faults: u64,
+    calls: Calls,
     ended: bool,
 }
 
@@ -25,22 +24,20 @@ impl Model for MemSource {
 
     ghost Value = { SourceState };
 
-    ghost view = { λ m. record { pieces = pieces_from m.pieces m.at m.from; fail_at = m.fail_at; calls = m.calls; faults = m.faults; ended = m.ended } };
+    ghost view = { λ m. record { pieces = pieces_from m.pieces m.at m.from; calls = m.calls; ended = m.ended } };
 }
 
 impl MemSource {
     /// A source of these pieces, whose calls with these numbers, counted from 1, fail.
     pub fn new(pieces: Rows<Rows<u8>>, fail_at: Rows<u64>) -> MemSource
-        ensures state { result ≡ record { pieces = filled pieces; fail_at = fail_at; calls = 0; faults = 0; ended = false } }
+        ensures state { result ≡ record { pieces = filled pieces; calls = record { fail_at = fail_at; made = 0; faults = 0 }; ended = false } }
         ensures octets { octets_of result.pieces ≡ octets_of pieces }
     {
         MemSource {
             pieces,
             at: 0,
             from: 0,
-            fail_at,
-            calls: 0,
-            faults: 0,
+            calls: Calls::new(fail_at),
             ended: false,
         }
     }
@@ -76,7 +73,7 @@ impl Source for MemSource {
 
     ghost left = { λ m. Some (octets_of m.pieces) };
 
-    ghost faults = { λ m. m.faults };
+    ghost faults = { λ m. m.calls.faults };
 
     ghost ended = { λ m. m.ended };
 
@@ -85,24 +82,23 @@ impl Source for MemSource {
         ensures bound { IfOk result (λ n. n ≤ length buf.old) }
         ensures bytes { Reads (Some (octets_of self.old.pieces)) (Some (octets_of self.new.pieces)) result buf.new }
         ensures ended { self.new.ended ≡ ends result }
-        ensures cause { HasCause self.old.faults self.new.faults result }
-        ensures fails { IsErr result ↔ Contains self.old.fail_at (raised self.old.calls) }
+        ensures cause { HasCause self.old.calls.faults self.new.calls.faults result }
+        ensures fails { IsErr result ↔ Contains self.old.calls.fail_at (raised self.old.calls.made) }
         ensures gives { IfOk result (λ n. n ≡ count_given (length buf.old) self.old.pieces) }
         ensures after { self.new ≡ after_read self.old result }
     {
-        self.calls = self.calls.saturating_add(1);
         self.ended = false;
-        if self.fail_at.as_slice().contains(&self.calls) {
-            self.faults = self.faults.saturating_add(1);
-            return Err(Failed);
+        if self.calls.next_fails() {
+            return Err(self.calls.fault());
         }
-        match first_octet(self.pieces.as_slice(), self.at, self.from) {
+        let pieces = self.pieces.as_slice();
+        match first_octet(pieces, self.at, self.from) {
             None => {
                 self.ended = true;
                 Ok(0)
             }
             Some((at, from)) => {
-                let n = copy_front(&self.pieces.as_slice()[at].as_slice()[from..], buf);
+                let n = copy_front(&pieces[at].as_slice()[from..], buf);
                 self.at = at;
                 self.from = from + n;
                 Ok(n)

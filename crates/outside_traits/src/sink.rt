@@ -1,6 +1,6 @@
-ghost use Rattle.std.specs.Prelude.{◌≡◌, ℕ, List, Option, ◌++◌, ◌<◌, ◌≤◌, length, take, IfOk, IfErr};
+ghost use Rattle.std.specs.Prelude.{◌≡◌, ℕ, List, Option, ◌++◌, ◌<◌, ◌≤◌, length, IfOk, IfErr};
 ghost use Rattle.outside_traits.specs.Faults.{HasCause};
-ghost use Rattle.outside_traits.specs.Sink.{Writes, count_taken};
+ghost use Rattle.outside_traits.specs.Sink.{Writes, part_taken};
 ghost use Rattle.outside_traits.specs.Told.{BothTold};
 
 use crate::Failed;
@@ -34,7 +34,7 @@ pub struct CutShort {
 
 /// Writes a whole piece, in as many calls as the sink needs, and none for an empty piece. `finish` is left to the caller.
 pub fn write_all<K: Sink>(sink: &mut K, piece: &[u8]) -> Result<(), CutShort>
-    ensures bytes { BothTold (K.written sink.old) (K.written sink.new) (λ old new. new ≡ old ++ take (count_taken result (length piece.now)) piece.now) }
+    ensures bytes { BothTold (K.written sink.old) (K.written sink.new) (λ old new. new ≡ old ++ part_taken result piece.now) }
     ensures bound { IfErr result (λ cut. cut.taken < length piece.now) }
     ensures cause { HasCause (K.faults sink.old) (K.faults sink.new) result }
 {

@@ -10,9 +10,9 @@ use Rattle.outside_traits.proofs.mem_source.MemSourceSource.read.Goals.{After-co
 reads : (c : After-copy_front-n) → ReadsAt c.self.inside.pieces c.args.self.now.pieces c.copy_front-n.new.buf (length c.args.buf.now) c.in-Some.at c.in-Some.from c.copy_front-n.result
 reads c =
     let place : IsAt c.self.inside.pieces c.args.self.now.pieces c.in-Some.at c.in-Some.from = first_of (search rules, grind arith, grind (arith, c.in-Some.ensures.some)) in
-    let count : c.copy_front-n.result ≡ min (length (drop c.in-Some.from c.index-as_slice-at.result)) (length c.args.buf.now) = first_of (search rules, grind (arith, common_steps)) in
-    let front : take c.copy_front-n.result c.copy_front-n.new.buf ≡ take c.copy_front-n.result (drop c.in-Some.from c.index-as_slice-at.result) = first_of (search rules, grind (arith, common_steps)) in
-    reads_at c.self.inside.pieces c.args.self.now.pieces c.index-as_slice-at.result c.copy_front-n.new.buf (length c.args.buf.now) c.in-Some.at c.in-Some.from c.copy_front-n.result place (first_of (search rules, grind arith)) c.requires count front
+    let count : c.copy_front-n.result ≡ min (length (drop c.in-Some.from c.index-pieces-at.result)) (length c.args.buf.now) = first_of (search rules, grind (arith, common_steps)) in
+    let front : take c.copy_front-n.result c.copy_front-n.new.buf ≡ take c.copy_front-n.result (drop c.in-Some.from c.index-pieces-at.result) = first_of (search rules, grind (arith, common_steps)) in
+    reads_at c.self.inside.pieces c.args.self.now.pieces c.index-pieces-at.result c.copy_front-n.new.buf (length c.args.buf.now) c.in-Some.at c.in-Some.from c.copy_front-n.result place (first_of (search rules, grind arith)) c.requires count front
 
 pub returns-in-Some-clause-bytes : goal.returns-in-Some-clause-bytes
 returns-in-Some-clause-bytes c = (reads (goal.at.returns-in-Some-clause-bytes c).After-copy_front-n).moves
@@ -31,8 +31,6 @@ returns-in-Some-clause-after c =
     let pieces : pieces_from c.self.inside.pieces c.in-Some.at (c.in-Some.from + c.copy_front-n.result) ≡ filled (cut_by c.copy_front-n.result c.args.self.now.pieces) = read.after in
     let some : 0 < c.copy_front-n.result = read.some in
     let not_ended : false ≡ (c.copy_front-n.result == 0) = grind (arith, nat_tests) in
-    let calls : c.saturating_add-self-inside.result ≡ raised c.self.inside.calls = first_of (search rules, grind (arith, common_steps)) in
-    let fail_at : c.self.inside.fail_at ≡ c.args.self.now.fail_at = ap (λ s. s.fail_at) c.self.view_is in
+    let calls : c.next_fails.new.self ≡ record c.self.inside.calls { made = raised c.self.inside.calls.made } = first_of (search rules, grind (arith, common_steps)) in
     let were : c.self.inside.calls ≡ c.args.self.now.calls = ap (λ s. s.calls) c.self.view_is in
-    let faults : c.self.inside.faults ≡ c.args.self.now.faults = ap (λ s. s.faults) c.self.view_is in
     first_of (cc, search rules, grind (arith, common_steps))
