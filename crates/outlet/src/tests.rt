@@ -1,7 +1,10 @@
+ghost use Rattle.std.specs.Prelude.{◌↔◌, ◌≤◌, All, IsTrue, length};
+
 use crate::{WriteCause, WriteFailure, write_texts};
 use lisp_data::{NoMemory, Rows, Text};
 use outside_traits::MemSink;
 use std::alloc::Global;
+use std::process::Abort;
 use std::test::Fail;
 
 /// The packets of the texts below, 31 octets: the length of a text is told in octets.
@@ -15,12 +18,23 @@ fn texts_of(alloc: Global) -> Result<Rows<Text>, NoMemory> {
     Ok(texts)
 }
 
+fn are_short(texts: &[Text]) -> bool
+    ensures { IsTrue result ↔ All (λ text. length text ≤ 0xFFFFFF) texts.now }
+{
+    texts.iter().all(|text| text.len() <= 0xFFFFFF)
+}
+
+fn written(rt: &impl Abort, alloc: Global, sink: &mut MemSink, texts: &Rows<Text>) -> Result<u64, WriteFailure> {
+    assert!(rt; are_short(texts.as_slice()));
+    write_texts(alloc, sink, texts.as_slice())
+}
+
 #[test]
 fn texts_are_written_as_packets(rt: HostRuntime) -> Result<(), Fail> {
     let texts = texts_of(rt.alloc())?;
     for at_most in [1, 2, 7, 31, 100] {
         let mut sink = MemSink::new(rt.alloc(), at_most, Rows::new(rt.alloc()));
-        let sent = write_texts(rt.alloc(), &mut sink, texts.as_slice());
+        let sent = written(&rt, rt.alloc(), &mut sink, &texts);
         assert_eq!(rt; sent, Ok(31));
         assert_eq!(rt; sink.taken.as_slice(), PACKETS);
     }
@@ -38,7 +52,7 @@ fn a_failure_leaves_what_was_sent_before_it(rt: HostRuntime) -> Result<(), Fail>
             sent: call - 1,
         };
         assert_eq!(rt;
-            write_texts(rt.alloc(), &mut sink, texts.as_slice()),
+            written(&rt, rt.alloc(), &mut sink, &texts),
             Err(failure)
         );
         assert_eq!(rt; sink.taken.as_slice(), &PACKETS[..call as usize - 1]);
@@ -58,11 +72,11 @@ fn a_batch_is_one_write_and_one_finish(rt: HostRuntime) -> Result<(), Fail> {
             sent: octets,
         };
         assert_eq!(rt;
-            write_texts(rt.alloc(), &mut sink, texts.as_slice()),
+            written(&rt, rt.alloc(), &mut sink, texts),
             Err(failure)
         );
         assert_eq!(rt;
-            write_texts(rt.alloc(), &mut sink, texts.as_slice()),
+            written(&rt, rt.alloc(), &mut sink, texts),
             Ok(octets)
         );
         assert_eq!(rt; sink.taken.len() as u64, 2 * octets);

@@ -1,5 +1,5 @@
 -- The calls of a device in memory.
-use Rattle.std.specs.Prelude.{ℕ, Result}
+use Rattle.std.specs.Prelude.{Result}
 use Rattle.outside_traits.specs.Faults.{count_after, raised}
 use Rattle.outside_traits.specs.declared.calls.Calls.{Calls}
 
