@@ -24,7 +24,12 @@ fn are_short(texts: &[Text]) -> bool
     texts.iter().all(|text| text.len() <= 0xFFFFFF)
 }
 
-fn written(rt: &impl Abort, alloc: Global, sink: &mut MemSink, texts: &Rows<Text>) -> Result<u64, WriteFailure> {
+fn written(
+    rt: &impl Abort,
+    alloc: Global,
+    sink: &mut MemSink,
+    texts: &Rows<Text>,
+) -> Result<u64, WriteFailure> {
     assert!(rt; are_short(texts.as_slice()));
     write_texts(alloc, sink, texts.as_slice())
 }
@@ -51,10 +56,7 @@ fn a_failure_leaves_what_was_sent_before_it(rt: HostRuntime) -> Result<(), Fail>
             cause: WriteCause::WriteFault,
             sent: call - 1,
         };
-        assert_eq!(rt;
-            written(&rt, rt.alloc(), &mut sink, &texts),
-            Err(failure)
-        );
+        assert_eq!(rt; written(&rt, rt.alloc(), &mut sink, &texts), Err(failure));
         assert_eq!(rt; sink.taken.as_slice(), &PACKETS[..call as usize - 1]);
     }
     Ok(())
@@ -71,14 +73,8 @@ fn a_batch_is_one_write_and_one_finish(rt: HostRuntime) -> Result<(), Fail> {
             cause: WriteCause::WriteFault,
             sent: octets,
         };
-        assert_eq!(rt;
-            written(&rt, rt.alloc(), &mut sink, texts),
-            Err(failure)
-        );
-        assert_eq!(rt;
-            written(&rt, rt.alloc(), &mut sink, texts),
-            Ok(octets)
-        );
+        assert_eq!(rt; written(&rt, rt.alloc(), &mut sink, texts), Err(failure));
+        assert_eq!(rt; written(&rt, rt.alloc(), &mut sink, texts), Ok(octets));
         assert_eq!(rt; sink.taken.len() as u64, 2 * octets);
     }
     Ok(())
