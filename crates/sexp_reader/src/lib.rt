@@ -1,0 +1,6 @@
+//! The form that a text spells.
+#![tactic(auto)]
+
+mod fault;
+
+pub use fault::ReadFault;
