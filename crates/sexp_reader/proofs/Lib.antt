@@ -1,0 +1,11 @@
+pub mod AtomLemmas
+pub mod BoolLemmas
+pub mod Exact
+pub mod IntegerLemmas
+pub mod ReadingLemmas
+pub mod Spelled
+pub mod Steps
+pub mod Stopped
+pub mod TextLemmas
+pub mod TokenLemmas
+pub mod Total

@@ -1,2 +1,6 @@
+pub mod Answers
+pub mod Atoms
+pub mod Faults
 pub mod Grammar
+pub mod Reading
 pub mod Tokens

@@ -1,11 +1,11 @@
 -- Tokens, as lists of characters: what ends one, which are bad, and which are integers. Section 2.3 of the HyperSpec, cut to
--- what the subset reads.
+-- what the subset reads: no ratios, no floats, no escapes.
 use Rattle.std.specs.Prelude.{◌≡◌, ◌==◌, ◌||◌, ℕ, ℤ, ◌<◌, Bool, true, false, List, [], ◌∷◌, ◌++◌, length, map, codes, pos, neg_ℤ}
 use Rattle.std.specs.List.{list_any}
 use Rattle.std.specs.Char.{is_ascii_digit, to_ascii_uppercase}
 use Rattle.std.specs.Str.Parse.{IsNumeral, digits_value}
 
--- space, tab, newline, carriage return and form feed
+-- whitespace: space, tab, newline, carriage return and form feed (HyperSpec 2.1.4)
 abbrev pub is_space : ℕ → Bool
 is_space c = c == 32 || c == 9 || c == 10 || c == 13 || c == 12
 
@@ -17,7 +17,7 @@ ends_token c = is_space c || c == 40 || c == 41 || c == 34 || c == 59 || c == 39
 abbrev pub max_characters : ℕ
 max_characters = 1000
 
--- the ASCII letters in upper case
+-- a token as it is read: its ASCII letters in upper case (HyperSpec 2.2)
 abbrev pub uppercase : List ℕ → List ℕ
 uppercase token = map to_ascii_uppercase token
 
@@ -25,7 +25,7 @@ uppercase token = map to_ascii_uppercase token
 abbrev pub IsNil : List ℕ → Type 0
 IsNil token = uppercase token ≡ codes "NIL"
 
--- an optional sign and one or more digits, with their number
+-- an optional sign and one or more digits, with their number (HyperSpec 2.3.1.1)
 pub data IsInteger : List ℕ → ℤ → Type 0 where
   bare : (digits : List ℕ) → IsNumeral 10 digits → IsInteger digits (pos (digits_value 10 digits))
   plus : (digits : List ℕ) → IsNumeral 10 digits → IsInteger (43 ∷ digits) (pos (digits_value 10 digits))
@@ -50,6 +50,7 @@ abbrev pub has_colon : List ℕ → Bool
 has_colon token = list_any (λ c. c == 58) token
 
 -- its colons, if it holds any, are a leading one, or one or two adjacent ones between two parts that aren't empty
+-- (HyperSpec 2.3.5)
 pub data HasGoodColons : List ℕ → Type 0 where
   none : (token : List ℕ) → has_colon token ≡ false → HasGoodColons token
   leading : (name : List ℕ) → has_colon name ≡ false → HasGoodColons (58 ∷ name)
