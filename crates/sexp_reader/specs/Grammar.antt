@@ -44,7 +44,7 @@ abbrev pub max_open : ℕ
 max_open = 500
 
 -- `Spells n t x rest`: t is a spelling of the form x, with at most n lists and quote marks open at once in it, and then rest.
--- A list in parentheses (HyperSpec 2.4.1), a form after `'` or `#'`, a string, an integer (2.3.1), NIL, or a symbol (2.3.4)
+-- A list in parentheses (HyperSpec 2.4.1), a form after `'` or `#'`, a string, an integer (2.3.2.1.1), NIL, or a symbol (2.3.4)
 mutual
   pub data Spells : ℕ → List ℕ → Sexp → List ℕ → Type 0 where
     list : (n : ℕ) (t rest : List ℕ) (xs : List Sexp) → Items n t xs rest → Spells (suc n) (40 ∷ t) (form.List xs) rest

@@ -5,7 +5,7 @@ use Rattle.std.specs.List.{list_any}
 use Rattle.std.specs.Char.{is_ascii_digit, to_ascii_uppercase}
 use Rattle.std.specs.Str.Parse.{IsNumeral, digits_value}
 
--- whitespace: space, tab, newline, carriage return and form feed (HyperSpec 2.1.4)
+-- whitespace: space, tab, newline, carriage return and form feed (HyperSpec 2.1.4.7)
 abbrev pub is_space : ℕ → Bool
 is_space c = c == 32 || c == 9 || c == 10 || c == 13 || c == 12
 
@@ -25,13 +25,13 @@ uppercase token = map to_ascii_uppercase token
 abbrev pub IsNil : List ℕ → Type 0
 IsNil token = uppercase token ≡ codes "NIL"
 
--- an optional sign and one or more digits, with their number (HyperSpec 2.3.1.1)
+-- an optional sign and one or more digits, with their number (HyperSpec 2.3.2.1.1)
 pub data IsInteger : List ℕ → ℤ → Type 0 where
   bare : (digits : List ℕ) → IsNumeral 10 digits → IsInteger digits (pos (digits_value 10 digits))
   plus : (digits : List ℕ) → IsNumeral 10 digits → IsInteger (43 ∷ digits) (pos (digits_value 10 digits))
   minus : (digits : List ℕ) → IsNumeral 10 digits → IsInteger (45 ∷ digits) (neg_ℤ (pos (digits_value 10 digits)))
 
--- no such text
+-- it is no sign and digits
 abbrev pub IsNoInteger : List ℕ → Type 0
 IsNoInteger token = (z : ℤ) → ¬ IsInteger token z
 
@@ -39,7 +39,7 @@ IsNoInteger token = (z : ℤ) → ¬ IsInteger token z
 abbrev pub begins_number : ℕ → Bool
 begins_number c = is_ascii_digit c || c == 46
 
--- its first character after an optional sign is a digit or a dot
+-- its first character after an optional sign is a digit or a dot, as that of a number (HyperSpec 2.3.1.1)
 pub data IsNumberLike : List ℕ → Type 0 where
   bare : (c : ℕ) (others : List ℕ) → begins_number c ≡ true → IsNumberLike (c ∷ others)
   plus : (c : ℕ) (others : List ℕ) → begins_number c ≡ true → IsNumberLike (43 ∷ c ∷ others)

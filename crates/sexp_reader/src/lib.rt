@@ -14,7 +14,6 @@ mod placed;
 mod read;
 mod reader;
 mod state;
-
 #[cfg(test)]
 mod tests;
 

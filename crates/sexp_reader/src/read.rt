@@ -83,8 +83,7 @@ pub fn reading_is_exact()
 
     // And never both.
     ensures not_both { (text : List ℕ) → (form : Sexp) → (fault : ReadFault) → IsSpelled text form → IsFault text fault → ⊥ }
-{
-}
+{}
 
 /// The laws of reading forms one after another: every list of characters is a spelling of one list of forms with their places,
 /// or has one fault.
@@ -100,5 +99,4 @@ pub fn reading_all_is_exact()
 
     // And never both.
     ensures not_both { (text : List ℕ) → (forms : List Placed) → (fault : ReadFault) → AreSpelled text forms → IsFaultAmong text fault → ⊥ }
-{
-}
+{}

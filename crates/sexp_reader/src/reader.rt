@@ -14,6 +14,7 @@ use std::alloc::Global;
 use std::mem;
 
 const MAX_OPEN: usize = 500;
+
 const MAX_CHARACTERS: usize = 1000;
 
 /// A form behind a quote mark: the list of the mark's name and the form.

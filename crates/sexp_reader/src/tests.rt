@@ -96,7 +96,11 @@ fn forms_and_faults_come_as_worked_by_hand(rt: HostRuntime) -> Result<(), Fail> 
         ("(1.5", "BadToken"),
         ("(#", "BadToken"),
     ] {
-        assert_eq!(rt; read_one(alloc, &Text::of(alloc, text)?)?.as_str(), want, "at {text}");
+        assert_eq!(rt;
+            read_one(alloc, &Text::of(alloc, text)?)?.as_str(),
+            want,
+            "at {text}"
+        );
     }
     Ok(())
 }
@@ -119,7 +123,11 @@ fn marks_comments_and_strings_are_read(rt: HostRuntime) -> Result<(), Fail> {
         ("\"é\\é\"", "<éé>"),
         ("( )", "()"),
     ] {
-        assert_eq!(rt; read_one(alloc, &Text::of(alloc, text)?)?.as_str(), want, "at {text}");
+        assert_eq!(rt;
+            read_one(alloc, &Text::of(alloc, text)?)?.as_str(),
+            want,
+            "at {text}"
+        );
     }
     Ok(())
 }
@@ -146,13 +154,21 @@ fn tokens_are_integers_or_symbols_or_bad(rt: HostRuntime) -> Result<(), Fail> {
         ("a:b", "A:B"),
         ("a::b", "A::B"),
     ] {
-        assert_eq!(rt; read_one(alloc, &Text::of(alloc, text)?)?.as_str(), want, "at {text}");
+        assert_eq!(rt;
+            read_one(alloc, &Text::of(alloc, text)?)?.as_str(),
+            want,
+            "at {text}"
+        );
     }
     for text in [
-        "1.5", ".", "-.5", "1a", "+1+", "2+", "1+1", ":", "::", "::a", "a:", "a::", "a:::b", "a:b:c",
-        ":a:b", "a\\b", "a|b", "a,b", "`a", "#a", "#",
+        "1.5", ".", "-.5", "1a", "+1+", "2+", "1+1", ":", "::", "::a", "a:", "a::", "a:::b",
+        "a:b:c", ":a:b", "a\\b", "a|b", "a,b", "`a", "#a", "#",
     ] {
-        assert_eq!(rt; read_one(alloc, &Text::of(alloc, text)?)?.as_str(), "BadToken", "at {text}");
+        assert_eq!(rt;
+            read_one(alloc, &Text::of(alloc, text)?)?.as_str(),
+            "BadToken",
+            "at {text}"
+        );
     }
     Ok(())
 }
@@ -166,7 +182,10 @@ fn limits_count_marks_and_characters(rt: HostRuntime) -> Result<(), Fail> {
         ("", "é", 1000, 0),
     ] {
         let form = read_form(alloc, &repeated(alloc, first, last, times)?);
-        assert!(rt; matches!(&form, Ok(form) if form.depth() == want), "at {first}");
+        assert!(rt;
+            matches!(&form, Ok(form) if form.depth() == want),
+            "at {first}"
+        );
     }
     for (first, last, times, want) in [
         ("(", ")", 501, "TooDeep"),
@@ -186,7 +205,10 @@ fn limits_count_marks_and_characters(rt: HostRuntime) -> Result<(), Fail> {
 fn places_count_characters(rt: HostRuntime) -> Result<(), Fail> {
     let alloc = rt.alloc();
     for (text, want) in [
-        ("a é(b)\n'c ; x\n \"é\"1", "0:A 2:é 3:(B) 7:(QUOTE C) 15:<é> 18:1 "),
+        (
+            "a é(b)\n'c ; x\n \"é\"1",
+            "0:A 2:é 3:(B) 7:(QUOTE C) 15:<é> 18:1 ",
+        ),
         ("", ""),
         (" ; c", ""),
         ("a )", "StrayClose"),
