@@ -1,15 +1,12 @@
 -- The form of a token, by the rules.
-use Rattle.std.proofs.Common.{◌≡◌, ℕ, ℤ, ◌+◌, ◌^◌, ◌<◌, ◌≤◌, Bool, true, false, cond, not, ◌&&◌, ◌||◌, ◌==◌, ◌⊎◌, inl, inr, List, [], ◌∷◌, ◌++◌, length, refl, ap, sym, subst, ◌∙◌, arith, append_assoc, pos, neg_ℤ, w64, encode_utf8_all}
-use Rattle.std.specs.Prelude.{FitsSigned, Ok, Err, Result, if◌then◌else◌, nat_le, nat_lt}
+use Rattle.std.proofs.Common.{◌≡◌, ℕ, ℤ, ◌^◌, ◌<◌, ◌≤◌, Bool, true, false, not, ◌&&◌, ◌||◌, ◌==◌, ◌⊎◌, inl, inr, List, [], ◌∷◌, ◌++◌, length, refl, ap, sym, subst, ◌∙◌, arith, append_assoc, w64, encode_utf8_all}
+use Rattle.std.specs.Prelude.{FitsSigned, Ok, Err, if◌then◌else◌, nat_le, nat_lt}
 use Rattle.std.specs.List.{list_any}
 use Rattle.std.specs.Str.Parse.{digits_value}
-use Rattle.std.proofs.lemmas.Bool.{and_parts, le-leb, lt-ltb, ltb-true, ltb-false, leb-true, leb-false, eqb-true}
-use Rattle.std.proofs.lemmas.List.{append-nil}
-use Rattle.lisp_data.specs.declared.sexp.Sexp.{Sexp}
+use Rattle.std.proofs.lemmas.Bool.{and_parts, le-leb, lt-ltb, ltb-true, leb-true, leb-false, eqb-true}
 use Rattle.lisp_data.specs.declared.sexp.Sexp.TheVariants as form
-use Rattle.sexp_reader.specs.declared.fault.ReadFault.{ReadFault}
 use Rattle.sexp_reader.specs.declared.fault.ReadFault.TheVariants.{NumberTooWide, BadToken}
-use Rattle.sexp_reader.specs.Atoms.{is_integer, integer_of, is_empty, is_number_like, is_increment, is_nil, is_name, ends_name, has_good_rest, has_good_colons, is_bad, atom}
+use Rattle.sexp_reader.specs.Atoms.{is_integer, is_empty, is_number_like, is_increment, is_nil, is_name, ends_name, has_good_rest, has_good_colons, is_bad, atom}
 use Rattle.sexp_reader.specs.Tokens as t
 use Rattle.sexp_reader.specs.Tokens.{uppercase, has_colon, spoils, max_characters, IsNil, IsInteger, IsNoInteger, HasGoodColons, IsBad}
 use Rattle.sexp_reader.proofs.BoolLemmas.{decide, false-true, not-false, not-true, or-parts, or-left, or-right, or-false, and-both}

@@ -1,5 +1,5 @@
 -- What is read is exactly what texts spell, and the faults are exactly theirs.
-use Rattle.std.proofs.Common.{◌≡◌, ℕ, ◌+◌, ◌≤◌, Bool, true, false, ◌||◌, ◌==◌, ◌⊎◌, inl, inr, List, [], ◌∷◌, ◌++◌, length, refl, sym, ap, subst, ◌∙◌, arith, append_assoc}
+use Rattle.std.proofs.Common.{◌≡◌, ℕ, Bool, true, false, ◌==◌, ◌⊎◌, inl, inr, List, [], ◌∷◌, ◌++◌, refl, sym, ap, subst, ◌∙◌, arith, append_assoc}
 use Rattle.std.specs.Prelude.{Ok, Err, Result, IfOk, IfErr}
 use Rattle.std.proofs.lemmas.List.{append-nil}
 use Rattle.lisp_data.specs.declared.sexp.Sexp.{Sexp}
@@ -13,7 +13,7 @@ use Rattle.sexp_reader.specs.Grammar.{Gap, Spells, IsSpelled, SpellsAll, AreSpel
 use Rattle.sexp_reader.specs.Faults as f
 use Rattle.sexp_reader.specs.Faults.{Mark, Stops, IsFault, IsFaultAmong}
 use Rattle.sexp_reader.specs.Tokens.{is_space}
-use Rattle.sexp_reader.specs.Reading.{ready, start, began, added, is_full, complete, run, read_of, first_of_forms, form_of}
+use Rattle.sexp_reader.specs.Reading.{ready, start, is_full, complete, run, read_of, first_of_forms, form_of}
 use Rattle.sexp_reader.proofs.BoolLemmas.{or-false}
 use Rattle.sexp_reader.proofs.ReadingLemmas.{run-err, run-nil}
 use Rattle.sexp_reader.proofs.Spelled.{gap-run, spells-run}

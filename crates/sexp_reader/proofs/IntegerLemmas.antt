@@ -1,6 +1,6 @@
 -- Integers: their text, and those out of range.
-use Rattle.std.proofs.Common.{◌≡◌, ℕ, ◌^◌, ◌<◌, ◌≤◌, Bool, true, false, cond, leb, ltb, not, List, [], ◌∷◌, ◌++◌, length, zero, suc, refl, ap, ap₂, sym, subst, ◌∙◌, arith, rules, pos, neg_ℤ, w64, encode_utf8_all, drop}
-use Rattle.std.specs.Prelude.{FitsSigned, Ok, Err, Result, if◌then◌else◌, nat_le, nat_lt, ◌==◌, ◌⊎◌}
+use Rattle.std.proofs.Common.{◌≡◌, ℕ, ◌^◌, ◌<◌, ◌≤◌, Bool, true, false, cond, leb, ltb, not, List, [], ◌∷◌, ◌++◌, length, zero, suc, refl, ap₂, arith, rules, pos, neg_ℤ, w64, encode_utf8_all}
+use Rattle.std.specs.Prelude.{FitsSigned, Ok, Err, Result, if◌then◌else◌, nat_le, nat_lt, ◌==◌}
 use Rattle.std.proofs.Common.{inl, inr}
 use Rattle.std.specs.Char.{is_ascii_digit}
 use Rattle.std.specs.List.{list_all}

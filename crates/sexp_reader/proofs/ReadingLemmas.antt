@@ -1,8 +1,7 @@
 -- One character, and the others.
-use Rattle.std.proofs.Common.{◌≡◌, ℕ, ◌+◌, ◌-◌, List, [], ◌∷◌, length, refl, ap, sym, ◌∙◌, arith}
-use Rattle.std.specs.Prelude.{Ok, Err, Result}
+use Rattle.std.proofs.Common.{◌≡◌, ℕ, ◌+◌, List, [], ◌∷◌, length, refl, ap, ◌∙◌, arith}
+use Rattle.std.specs.Prelude.{Ok, Err}
 use Rattle.sexp_reader.specs.declared.state.Reader.{Reader}
-use Rattle.sexp_reader.specs.declared.placed.Placed.{Placed}
 use Rattle.sexp_reader.specs.declared.fault.ReadFault.{ReadFault}
 use Rattle.sexp_reader.specs.declared.fault.ReadFault.TheVariants.{End, Unclosed, StrayClose, BadToken, TooDeep, NumberTooWide, TrailingText, NoMemory}
 use Rattle.sexp_reader.specs.Answers.{Fails, ◌>>=◌}

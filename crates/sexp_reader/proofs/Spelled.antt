@@ -1,5 +1,5 @@
 -- What a text spells is read.
-use Rattle.std.proofs.Common.{◌≡◌, ℕ, ℤ, suc, ◌+◌, ◌<◌, ◌≤◌, Bool, true, false, ◌==◌, ◌⊎◌, inl, inr, List, [], ◌∷◌, ◌++◌, length, refl, sym, ap, subst, ◌∙◌, arith, append_assoc, length-append}
+use Rattle.std.proofs.Common.{◌≡◌, ℕ, ℤ, suc, ◌+◌, ◌<◌, ◌≤◌, true, false, inl, inr, List, [], ◌∷◌, ◌++◌, length, refl, sym, ap, subst, ◌∙◌, arith, append_assoc, length-append}
 use Rattle.std.specs.Prelude.{encode_utf8, encode_utf8_all, Ok, Err, Result, nat_lt, slice_index}
 use Rattle.std.specs.Char.{to_ascii_uppercase}
 use Rattle.std.proofs.lemmas.Bool.{ltb-true, ltb-false, eqb-true}
@@ -8,19 +8,17 @@ use Rattle.lisp_data.specs.declared.sexp.Sexp.{Sexp}
 use Rattle.lisp_data.specs.declared.sexp.Sexp.TheVariants as form
 use Rattle.sexp_reader.specs.declared.fault.ReadFault.{ReadFault}
 use Rattle.sexp_reader.specs.declared.fault.ReadFault.TheVariants.{BadToken}
-use Rattle.sexp_reader.specs.declared.placed.Placed.{Placed}
 use Rattle.sexp_reader.specs.declared.state.Forms.{Forms}
 use Rattle.sexp_reader.specs.declared.state.Frame.{Frame}
 use Rattle.sexp_reader.specs.declared.state.Frame.TheVariants.{Open, Quote, Function}
-use Rattle.sexp_reader.specs.declared.state.Reader.{Reader}
 use Rattle.sexp_reader.specs.Answers.{◌>>=◌}
 use Rattle.sexp_reader.specs.Atoms.{atom}
 use Rattle.sexp_reader.specs.Grammar as g
 use Rattle.sexp_reader.specs.Grammar.{Gap, Body, Taken, Token, Spells, Items, place}
 use Rattle.sexp_reader.specs.Tokens as t
 use Rattle.sexp_reader.specs.Tokens.{ends_token, max_characters, IsBad, IsInteger, IsNil}
-use Rattle.sexp_reader.specs.Reading.{ready, began, is_full, complete, step, between, token_ended, run, finish, whole}
-use Rattle.sexp_reader.proofs.BoolLemmas.{decide, false-true}
+use Rattle.sexp_reader.specs.Reading.{ready, began, is_full, complete, between, token_ended, run, finish, whole}
+use Rattle.sexp_reader.proofs.BoolLemmas.{decide}
 use Rattle.sexp_reader.proofs.AtomLemmas.{begins_hash, hash-bad, atom-integer, atom-nil, atom-symbol}
 use Rattle.sexp_reader.proofs.TextLemmas.{below_letters}
 use Rattle.sexp_reader.proofs.TokenLemmas.{hash-none}

@@ -1,11 +1,10 @@
 -- The fault of a text is answered.
-use Rattle.std.proofs.Common.{◌≡◌, ℕ, ℤ, zero, suc, ◌+◌, ◌<◌, ◌≤◌, Bool, true, false, ◌&&◌, ◌||◌, ◌==◌, ◌⊎◌, inl, inr, List, [], ◌∷◌, ◌++◌, length, map, refl, sym, ap, subst, ◌∙◌, arith, append_assoc}
-use Rattle.std.specs.Prelude.{encode_utf8, Ok, Err, Result, nat_lt}
+use Rattle.std.proofs.Common.{◌≡◌, ℕ, ◌+◌, ◌≤◌, true, false, inl, inr, List, [], ◌∷◌, ◌++◌, length, map, refl, sym, ap, subst, ◌∙◌, arith}
+use Rattle.std.specs.Prelude.{encode_utf8, Err, nat_lt}
 use Rattle.std.proofs.lemmas.Bool.{ltb-true, ltb-false, eqb-true}
 use Rattle.lisp_data.specs.declared.sexp.Sexp.{Sexp}
 use Rattle.sexp_reader.specs.declared.fault.ReadFault.{ReadFault}
-use Rattle.sexp_reader.specs.declared.fault.ReadFault.TheVariants.{End, Unclosed, StrayClose, BadToken, TooDeep, NumberTooWide, TrailingText}
-use Rattle.sexp_reader.specs.declared.placed.Placed.{Placed}
+use Rattle.sexp_reader.specs.declared.fault.ReadFault.TheVariants.{Unclosed, StrayClose, BadToken, TooDeep}
 use Rattle.sexp_reader.specs.declared.state.Forms.{Forms}
 use Rattle.sexp_reader.specs.declared.state.Frame.{Frame}
 use Rattle.sexp_reader.specs.declared.state.Frame.TheVariants.{Open, Quote, Function}

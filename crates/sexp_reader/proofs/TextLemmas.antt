@@ -1,8 +1,8 @@
 -- The length of a text, and texts of ASCII.
-use Rattle.std.proofs.Common.{◌≡◌, ℕ, ◌<◌, ◌≤◌, List, [], ◌∷◌, ◌++◌, length, chars, IsUtf8, encode_utf8_all, refl, ap, ap₂, subst, sym, ◌∙◌, arith, cond}
+use Rattle.std.proofs.Common.{◌≡◌, ℕ, ◌<◌, ◌≤◌, List, [], ◌∷◌, ◌++◌, length, chars, IsUtf8, encode_utf8_all, refl, ap, ap₂, subst, ◌∙◌, arith}
 use Rattle.std.specs.Char.{is_ascii_digit, to_ascii_uppercase}
 use Rattle.std.specs.List.{list_all}
-use Rattle.std.specs.Prelude.{Bool, true, encode_utf8}
+use Rattle.std.specs.Prelude.{true, encode_utf8}
 use Rattle.std.proofs.lemmas.Bool.{and_parts, lt-ltb}
 use Rattle.std.proofs.lemmas.Bool.Decides.{nat_tests}
 use Rattle.std.proofs.lemmas.Str.{length-le-encodes, encodes-chars, encode_ascii}

@@ -1,19 +1,17 @@
 -- The tests on tokens say what the rules do.
-use Rattle.std.proofs.Common.{◌≡◌, ℕ, ℤ, ◌+◌, ◌-◌, ◌^◌, ◌<◌, ◌≤◌, Bool, true, false, cond, leb, ltb, not, ◌&&◌, ◌||◌, ◌==◌, ◌⊎◌, inl, inr, List, [], ◌∷◌, ◌++◌, length, refl, ap, sym, subst, ◌∙◌, arith, pos, neg_ℤ, w64, encode_utf8_all, codes, map}
-use Rattle.std.specs.Prelude.{FitsSigned, Ok, Err, Result, if◌then◌else◌, nat_le, nat_lt, slice_index}
+use Rattle.std.proofs.Common.{◌≡◌, ℕ, ℤ, ◌+◌, ◌-◌, ◌^◌, ◌<◌, ◌≤◌, Bool, true, false, cond, not, ◌&&◌, ◌||◌, ◌==◌, ◌⊎◌, inl, inr, List, [], ◌∷◌, length, refl, ap, sym, subst, arith, pos, neg_ℤ, w64, codes}
+use Rattle.std.specs.Prelude.{FitsSigned, Ok, Err, if◌then◌else◌, nat_le, nat_lt, slice_index}
 use Rattle.std.specs.Char.{is_ascii_digit, to_ascii_uppercase, digit_value}
 use Rattle.std.specs.List.{list_all, list_any}
 use Rattle.std.specs.Str.Parse.{AllDigits, IsNumeral, digits_value, without_leading_sign, starts_with_minus}
-use Rattle.std.proofs.lemmas.Bool.{and_parts, le-leb, lt-ltb, le-ltb, ltb-true, ltb-false, leb-true, eqb-true}
+use Rattle.std.proofs.lemmas.Bool.{and_parts, le-leb, lt-ltb, ltb-true, ltb-false, leb-true, eqb-true}
 use Rattle.std.proofs.lemmas.Bool.Decides.{nat_tests}
-use Rattle.lisp_data.specs.declared.sexp.Sexp.{Sexp}
 use Rattle.lisp_data.specs.declared.sexp.Sexp.TheVariants as form
-use Rattle.sexp_reader.specs.declared.fault.ReadFault.{ReadFault}
-use Rattle.sexp_reader.specs.declared.fault.ReadFault.TheVariants.{NumberTooWide, BadToken}
-use Rattle.sexp_reader.specs.Atoms.{is_integer, integer_of, is_empty, is_number_like, is_increment, is_nil, is_name, ends_name, has_good_rest, has_good_colons, is_bad, atom}
+use Rattle.sexp_reader.specs.declared.fault.ReadFault.TheVariants.{NumberTooWide}
+use Rattle.sexp_reader.specs.Atoms.{is_integer, integer_of, is_empty, is_number_like, is_increment, is_nil, has_good_colons, is_bad}
 use Rattle.sexp_reader.specs.Tokens as t
 use Rattle.sexp_reader.specs.Tokens.{uppercase, has_colon, spoils, begins_number, max_characters, IsNil, IsInteger, IsNoInteger, IsNumberLike, HasGoodColons, IsBad}
-use Rattle.sexp_reader.proofs.BoolLemmas.{decide, false-true, not-true, or-parts, or-left, or-right, and-both}
+use Rattle.sexp_reader.proofs.BoolLemmas.{decide, false-true, or-parts, or-left, or-right, and-both}
 use Rattle.sexp_reader.proofs.IntegerLemmas.{integer_parts, numeral_of, fits-negative, fits-positive, negative-fits, positive-fits}
 
 -- ---- integers

@@ -1,5 +1,5 @@
 -- The tests that the code makes on a token, and the form that it gives. That they are the rules of `Tokens` is proved.
-use Rattle.std.specs.Prelude.{◌≡◌, ◌==◌, ◌||◌, ◌&&◌, not, ℕ, ◌^◌, Bool, true, false, if◌then◌else◌, nat_lt, nat_le, List, [], ◌∷◌, slice_index, encode_utf8_all, Result, Ok, Err, pos, neg_ℤ}
+use Rattle.std.specs.Prelude.{◌==◌, ◌||◌, ◌&&◌, not, ℕ, ◌^◌, Bool, true, false, if◌then◌else◌, nat_lt, nat_le, List, [], ◌∷◌, slice_index, encode_utf8_all, Result, Ok, Err, pos, neg_ℤ}
 use Rattle.std.specs.List.{list_any, list_all}
 use Rattle.std.specs.Char.{is_ascii_digit}
 use Rattle.std.specs.Str.Parse.{digits_value, without_leading_sign, starts_with_minus}

@@ -1,11 +1,11 @@
 -- The faults of texts, each by its place: a text is read from the left up to the first place at which reading must stop. In
 -- the standard these are the errors of type READER-ERROR and END-OF-FILE (HyperSpec 2.2, 2.3.5 and 2.4.2).
-use Rattle.std.specs.Prelude.{◌≡◌, ◌==◌, ◌||◌, ◌&&◌, not, ℕ, zero, suc, ◌≤◌, Bool, true, false, List, [], ◌∷◌, length, FitsSigned, ℤ}
+use Rattle.std.specs.Prelude.{◌≡◌, ◌==◌, ◌||◌, ◌&&◌, ℕ, zero, suc, ◌≤◌, Bool, false, List, [], ◌∷◌, length, FitsSigned, ℤ}
 use mir.Syntax.{w64}
 use Rattle.lisp_data.specs.declared.sexp.Sexp.{Sexp}
 use Rattle.sexp_reader.specs.declared.fault.ReadFault.{ReadFault}
 use Rattle.sexp_reader.specs.declared.fault.ReadFault.TheVariants.{End, Unclosed, StrayClose, BadToken, TooDeep, NumberTooWide, TrailingText}
-use Rattle.sexp_reader.specs.Grammar.{Gap, Body, Token, Spells, max_open}
+use Rattle.sexp_reader.specs.Grammar.{Gap, Token, Spells, max_open}
 use Rattle.sexp_reader.specs.Tokens.{is_space, max_characters, IsInteger, IsBad}
 
 -- what is open at a place

@@ -1,5 +1,5 @@
 -- What the code does with one character, and with a text character by character. That it reads what texts spell is proved.
-use Rattle.std.specs.Prelude.{◌≡◌, ◌==◌, ◌&&◌, not, ℕ, ◌-◌, Bool, true, false, if◌then◌else◌, nat_lt, nat_le, List, [], ◌∷◌, ◌++◌, length, codes, encode_utf8, Option, Some, None, Result, Ok, Err}
+use Rattle.std.specs.Prelude.{◌≡◌, ◌==◌, ◌&&◌, not, ℕ, Bool, false, if◌then◌else◌, nat_lt, List, [], ◌∷◌, ◌++◌, length, codes, encode_utf8, Option, Some, None, Result, Ok, Err}
 use Rattle.lisp_data.specs.declared.sexp.Sexp.{Sexp}
 use Rattle.lisp_data.specs.declared.sexp.Sexp.TheVariants as form
 use Rattle.sexp_reader.specs.declared.fault.ReadFault.{ReadFault}

@@ -4,7 +4,7 @@ use Rattle.std.proofs.lemmas.Result.{err_from_is_err_and}
 use Rattle.std.proofs.lemmas.Str.{chars-nil, chars_past_char, IsUtf8-past_char}
 use Rattle.std.specs.Str.Iter.{chars_rest}
 use Rattle.std.specs.Prelude.{Ok}
-use Rattle.sexp_reader.specs.Answers.{Fails, Gives}
+use Rattle.sexp_reader.specs.Answers.{Fails}
 use Rattle.sexp_reader.specs.Reading.{run, step}
 use Rattle.sexp_reader.proofs.ReadingLemmas.{run-nil, run-ok, fails-run, place_is}
 use Rattle.sexp_reader.proofs.TextLemmas.{length-chars}
