@@ -1,0 +1,13 @@
+//! The text of a form or of a value.
+//!
+//! A form prints as wire text ([`print_wire`]), which the peer reads, and as text to be shown ([`print_form`]); a value prints as
+//! user text ([`print_user`]). Each text is a definition of the whole tree: `printed` and `shown` in `specs/Printed.antt`,
+//! `user_text` in `specs/UserText.antt`. Printing takes time and memory in proportion to its text.
+#![tactic(auto)]
+
+mod form;
+mod piece;
+mod value;
+
+pub use form::{print_form, print_wire};
+pub use value::print_user;
