@@ -1,3 +1,4 @@
 pub mod Case
+pub mod Plain
 pub mod Printed
 pub mod UserText

@@ -1,6 +1,9 @@
 ghost use Rattle.std.specs.Prelude.{◌≡◌, ◌++◌, IfOk, OnOk};
+ghost use Rattle.std.specs.Str.{chars};
 ghost use Rattle.sexp_printer.specs.Case.{change_of};
+ghost use Rattle.sexp_printer.specs.Plain.{IsPlain};
 ghost use Rattle.sexp_printer.specs.Printed.{changed, text_of, printed, shown};
+ghost use Rattle.sexp_reader.specs.Grammar.{max_open, IsSpelled};
 
 use crate::piece::{write_integer, write_quoted};
 use lisp_data::{NoMemory, Sexp, Text};
@@ -54,20 +57,26 @@ fn write(out: &mut Text, case: Case, form: &Sexp) -> Result<(), NoMemory>
     }
 }
 
-/// The wire text of a form: symbols and `nil` in lower case, as SLIME's `swank/rpc.lisp` prints them.
-pub fn print_wire(alloc: Global, form: &Sexp) -> Result<Text, NoMemory>
-    ensures text { IfOk result (λ text. text ≡ printed form.now) }
+fn print_in(alloc: Global, case: Case, form: &Sexp) -> Result<Text, NoMemory>
+    ensures { IfOk result (λ text. text ≡ text_of (change_of case) form.now) }
 {
     let mut out = Text::new(alloc);
-    write(&mut out, Case::Lower, form)?;
+    write(&mut out, case, form)?;
     Ok(out)
+}
+
+/// The wire text of a form: symbols and `nil` in lower case, as SLIME's `swank/rpc.lisp` prints them. The text of a plain form
+/// is read back as that form.
+pub fn print_wire(alloc: Global, form: &Sexp) -> Result<Text, NoMemory>
+    ensures text { IfOk result (λ text. text ≡ printed form.now) }
+    ensures spelled { IsPlain max_open form.now → IfOk result (λ text. IsSpelled (chars text) form.now) }
+{
+    print_in(alloc, Case::Lower, form)
 }
 
 /// The text of a form as it is shown: as on the wire, with symbols and `NIL` in upper case.
 pub fn print_form(alloc: Global, form: &Sexp) -> Result<Text, NoMemory>
     ensures text { IfOk result (λ text. text ≡ shown form.now) }
 {
-    let mut out = Text::new(alloc);
-    write(&mut out, Case::Upper, form)?;
-    Ok(out)
+    print_in(alloc, Case::Upper, form)
 }

@@ -6,8 +6,10 @@
 #![tactic(auto)]
 
 mod form;
+mod law;
 mod piece;
 mod value;
 
 pub use form::{print_form, print_wire};
+pub use law::printed_again;
 pub use value::print_user;
