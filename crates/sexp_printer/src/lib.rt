@@ -13,3 +13,6 @@ mod value;
 pub use form::{print_form, print_wire};
 pub use law::printed_again;
 pub use value::print_user;
+
+#[cfg(test)]
+mod tests;
