@@ -1,6 +1,6 @@
 -- The wire text of a plain form is a spelling of it.
 use mir.Syntax.{w64}
-use Rattle.std.proofs.Common.{◌≡◌, ℕ, zero, suc, ◌<◌, ◌≤◌, Bool, true, false, cond, ◌&&◌, ◌||◌, ◌==◌, inl, inr, List, [], ◌∷◌, ◌++◌, length, map, flat_map, chars, refl, sym, ap, subst, ◌∙◌, arith, append_assoc}
+use Rattle.std.proofs.Common.{◌≡◌, ℕ, suc, ◌<◌, Bool, true, false, cond, ◌||◌, ◌==◌, inl, inr, List, [], ◌∷◌, ◌++◌, length, map, flat_map, chars, refl, sym, ap, subst, ◌∙◌, arith, append_assoc}
 use Rattle.std.specs.Prelude.{ℤ, encode_utf8_all, codes, nat_lt, FitsSigned, Result, Ok, Err, IfOk}
 use Rattle.std.specs.Char.{to_ascii_lowercase}
 use Rattle.std.specs.Fmt.{signed_decimal}
@@ -17,7 +17,7 @@ use Rattle.lisp_data.specs.declared.sexp.Sexp.TheOpen.{Sexp-F}
 use Rattle.lisp_data.specs.declared.sexp.Sexp.TheFolds.{fold-Sexp, fold-roll-Sexp}
 use Rattle.lisp_data.specs.declared.sexp.Sexp.TheVariants as form
 use Rattle.lisp_data.specs.declared.sexp.Sexp.TheVariants.{rolls-Int, rolls-Str, rolls-Sym, rolls-List}
-use Rattle.sexp_reader.specs.Tokens.{ends_token, uppercase, IsInteger, IsBad, IsNoInteger}
+use Rattle.sexp_reader.specs.Tokens.{ends_token, uppercase}
 use Rattle.sexp_reader.specs.Grammar.{Gap, Body, Taken, Token, Spells, Items, IsSpelled}
 use Rattle.sexp_printer.specs.Plain.{IsPlainToken, IsPlain, ArePlain}
 use Rattle.sexp_printer.specs.Printed.{escaped, changed, others_of, in_parentheses, text_step, printed}

@@ -1,19 +1,18 @@
 -- A token in lower case: it is good, an integer or NIL exactly where the token itself is.
 use mir.Syntax.{w64}
-use Rattle.std.proofs.Common.{◌≡◌, ℕ, zero, suc, ◌+◌, ◌^◌, ◌<◌, ◌≤◌, ◌⊎◌, inl, inr, Bool, true, false, ◌||◌, ◌==◌, List, [], ◌∷◌, ◌++◌, length, map, refl, sym, ap, subst, ◌∙◌, arith, pos, negsuc, neg_ℤ}
+use Rattle.std.proofs.Common.{◌≡◌, ℕ, suc, ◌+◌, ◌^◌, ◌<◌, ◌≤◌, ◌⊎◌, inl, inr, Bool, false, ◌==◌, List, [], ◌∷◌, length, map, refl, sym, ap, subst, ◌∙◌, arith, pos, negsuc, neg_ℤ}
 use Rattle.std.specs.Prelude.{ℤ, codes, FitsSigned}
-use Rattle.std.specs.Char.{to_ascii_lowercase, to_ascii_uppercase, is_ascii_digit}
+use Rattle.std.specs.Char.{to_ascii_lowercase, to_ascii_uppercase}
 use Rattle.std.specs.Fmt.{decimal, signed_decimal}
 use Rattle.std.specs.List.{list_any}
-use Rattle.std.specs.Str.Parse.{AllDigits, IsNumeral, digits_value}
-use Rattle.std.proofs.lemmas.Bool.{ne_eqb, cases_order, eqb-true, eq-eqb}
+use Rattle.std.specs.Str.Parse.{AllDigits, digits_value}
+use Rattle.std.proofs.lemmas.Bool.{ne_eqb}
 use Rattle.std.proofs.lemmas.Bool.Decides.{leb_tells, nat_tests}
 use Rattle.std.proofs.lemmas.Fmt.{decimal_is_IsNumeral, length_signed_le}
 use Rattle.std.proofs.lemmas.List.{map-append, length-map}
 use Rattle.std.proofs.lemmas.Str.Ascii.{lowercase_is}
 use Rattle.std.proofs.lemmas.Str.Parse.{digit_at}
-use Rattle.sexp_reader.specs.Tokens.{ends_token, is_space, spoils, begins_number, has_colon, uppercase, IsInteger, IsNoInteger, IsNumberLike, HasGoodColons, IsBad, IsNil, max_characters}
-use Rattle.sexp_printer.specs.Plain.{IsPlainToken}
+use Rattle.sexp_reader.specs.Tokens.{ends_token, spoils, begins_number, has_colon, uppercase, IsInteger, IsNoInteger, IsNumberLike, HasGoodColons, IsBad, IsNil}
 
 abbrev pub lower : List ℕ → List ℕ
 lower token = map to_ascii_lowercase token

@@ -1,6 +1,6 @@
 -- The text of a value, as it is shown to the user. Chapter 22 of the HyperSpec (22.1.3.3 symbols and their packages, 22.1.3.13
 -- other objects; functions PRIN1, with escape, and PRINC, without).
-use Rattle.std.specs.Prelude.{◌||◌, ℕ, Bool, if◌then◌else◌, List, [], ◌∷◌, ◌++◌, codes}
+use Rattle.std.specs.Prelude.{◌||◌, ℕ, Bool, if◌then◌else◌, List, ◌++◌, codes}
 use Rattle.std.specs.Fmt.{signed_decimal}
 use Rattle.std.specs.Str.{bytes_eq}
 use Rattle.lisp_data.specs.declared.symbol.Symbol.{Symbol}
