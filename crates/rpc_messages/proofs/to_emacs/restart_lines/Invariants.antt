@@ -1,0 +1,6 @@
+use Rattle.std.proofs.Common.{◌≡◌, map, take}
+use Rattle.rpc_messages.specs.Outgoing as outgoing
+use Rattle.rpc_messages.proofs.to_emacs.restart_lines.Given as goal
+
+abbrev pub invariant-loop-line : goal.invariant-loop-line
+invariant-loop-line l = l.items ≡ map outgoing.restart_form (take l.line-index l.lines)

@@ -1,0 +1,4 @@
+pub mod Cut
+pub mod Incoming
+pub mod Outgoing
+pub mod Waiting

@@ -1,0 +1,402 @@
+ghost use Rattle.std.specs.Prelude.{◌≡◌, ◌^◌, ◌<◌, [], ◌∷◌, All, codes, IfOk, map};
+ghost use Rattle.lisp_data.specs.declared.sexp.Sexp.TheVariants as form;
+ghost use Rattle.rpc_messages.specs.Outgoing as outgoing;
+ghost use Rattle.rpc_messages.specs.Outgoing.{form_of, HasSmallNumbers};
+
+use lisp_data::{NoMemory, Rows, Sexp, Text};
+use std::alloc::Global;
+
+/// How a request ended.
+#[derive(Debug, Drop)]
+pub enum Returned {
+    Ok(Sexp),
+    Abort,
+}
+
+/// A restart as a debugger level lists it.
+#[derive(Debug, Drop)]
+pub struct RestartLine {
+    pub name: Text,
+    pub text: Text,
+}
+
+/// A frame as a debugger level lists it, with its number from 0.
+#[derive(Debug, Drop)]
+pub struct FrameLine {
+    pub number: u64,
+    pub text: Text,
+}
+
+/// A message to Emacs. Each form is what `slime-dispatch-event` of SLIME takes.
+#[derive(Debug, Drop)]
+pub enum ToEmacs {
+    /// `(:return (:ok VALUE) ID)` or `(:return (:abort "NIL") ID)`
+    Return {
+        id: i64,
+        result: Returned,
+    },
+    /// `(:invalid-rpc ID TEXT)`
+    InvalidRpc {
+        id: i64,
+        text: Text,
+    },
+    /// `(:reader-error PACKET TEXT)`
+    ReaderError {
+        packet: Text,
+        text: Text,
+    },
+    /// `(:write-string TEXT)`, or `(:write-string TEXT :repl-result)`
+    WriteString {
+        text: Text,
+        repl_result: bool,
+    },
+    /// `(:read-string THREAD TAG)`
+    ReadString {
+        thread: u64,
+        tag: u64,
+    },
+    /// `(:read-aborted THREAD TAG)`
+    ReadAborted {
+        thread: u64,
+        tag: u64,
+    },
+    /// `(:y-or-n-p THREAD TAG TEXT)`
+    YesNo {
+        thread: u64,
+        tag: u64,
+        text: Text,
+    },
+    /// `(:new-package NAME PROMPT)`
+    NewPackage {
+        name: Text,
+        prompt: Text,
+    },
+    /// `(:debug THREAD LEVEL (MESSAGE TYPELINE nil) RESTARTS FRAMES CONTINUATIONS)`, the restarts and the ids of the pending
+    /// requests innermost first
+    Debug {
+        thread: u64,
+        level: u64,
+        message: Text,
+        type_line: Text,
+        restarts: Rows<RestartLine>,
+        frames: Rows<FrameLine>,
+        continuations: Rows<i64>,
+    },
+    /// `(:debug-activate THREAD LEVEL nil)`
+    DebugActivate {
+        thread: u64,
+        level: u64,
+    },
+    /// `(:debug-return THREAD LEVEL nil)`
+    DebugReturn {
+        thread: u64,
+        level: u64,
+    },
+    /// `(:debug-condition THREAD TEXT)`
+    DebugCondition {
+        thread: u64,
+        text: Text,
+    },
+}
+
+fn symbol(alloc: Global, name: &str) -> Result<Sexp, NoMemory>
+    ensures { IfOk result (λ x. x ≡ form.Sym name.now) }
+{
+    Ok(Sexp::Sym(Text::of(alloc, name)?))
+}
+
+fn string(alloc: Global, text: &Text) -> Result<Sexp, NoMemory>
+    ensures { IfOk result (λ x. x ≡ form.Str text.now) }
+{
+    Ok(Sexp::Str(text.copy(alloc)?))
+}
+
+fn integer(n: &i64) -> Sexp
+    ensures { result ≡ form.Int n.now }
+{
+    Sexp::Int(*n)
+}
+
+fn number(n: u64) -> Sexp
+    requires { n < 2 ^ 63 }
+    ensures { result ≡ outgoing.number n }
+{
+    Sexp::Int(n as i64)
+}
+
+fn nil(alloc: Global) -> Sexp
+    ensures { result ≡ outgoing.nil }
+{
+    Sexp::List(Rows::new(alloc))
+}
+
+fn one(alloc: Global, a: Sexp) -> Result<Rows<Sexp>, NoMemory>
+    ensures { IfOk result (λ x. x ≡ a ∷ []) }
+{
+    let mut items = Rows::new(alloc);
+    items.push(a)?;
+    Ok(items)
+}
+
+/// The list of two items.
+fn pair(alloc: Global, a: Sexp, b: Sexp) -> Result<Rows<Sexp>, NoMemory>
+    ensures { IfOk result (λ x. x ≡ a ∷ b ∷ []) }
+{
+    let mut items = one(alloc, a)?;
+    items.push(b)?;
+    Ok(items)
+}
+
+/// The list of three items.
+fn triple(alloc: Global, a: Sexp, b: Sexp, c: Sexp) -> Result<Rows<Sexp>, NoMemory>
+    ensures { IfOk result (λ x. x ≡ a ∷ b ∷ c ∷ []) }
+{
+    let mut items = pair(alloc, a, b)?;
+    items.push(c)?;
+    Ok(items)
+}
+
+fn result_form(alloc: Global, how: &Returned) -> Result<Sexp, NoMemory>
+    ensures { IfOk result (λ x. x ≡ outgoing.returned_form how.now) }
+{
+    let items = match how {
+        Returned::Ok(value) => pair(alloc, symbol(alloc, ":OK")?, value.copy(alloc)?)?,
+        Returned::Abort => pair(
+            alloc,
+            symbol(alloc, ":ABORT")?,
+            Sexp::Str(Text::of(alloc, "NIL")?),
+        )?,
+    };
+    Ok(Sexp::List(items))
+}
+
+/// `(HEAD FIRST SECOND)`, of two texts.
+fn of_texts(alloc: Global, head: &str, first: &Text, second: &Text) -> Result<Sexp, NoMemory>
+    ensures { IfOk result (λ x. x ≡ outgoing.message head.now (form.Str first.now ∷ form.Str second.now ∷ [])) }
+{
+    let items = triple(
+        alloc,
+        symbol(alloc, head)?,
+        string(alloc, first)?,
+        string(alloc, second)?,
+    )?;
+    Ok(Sexp::List(items))
+}
+
+/// `(HEAD THREAD NUMBER)`
+fn of_thread(alloc: Global, head: &str, thread: u64, tag: u64) -> Result<Rows<Sexp>, NoMemory>
+    requires thread { thread < 2 ^ 63 }
+    requires tag { tag < 2 ^ 63 }
+    ensures { IfOk result (λ x. x ≡ form.Sym head.now ∷ outgoing.number thread ∷ outgoing.number tag ∷ []) }
+{
+    triple(alloc, symbol(alloc, head)?, number(thread), number(tag))
+}
+
+/// `(HEAD THREAD NUMBER MORE)`
+fn of_thread_and(
+    alloc: Global,
+    head: &str,
+    thread: u64,
+    tag: u64,
+    more: Sexp,
+) -> Result<Sexp, NoMemory>
+    requires thread { thread < 2 ^ 63 }
+    requires tag { tag < 2 ^ 63 }
+    ensures { IfOk result (λ x. x ≡ outgoing.message head.now (outgoing.number thread ∷ outgoing.number tag ∷ more ∷ [])) }
+{
+    let mut items = of_thread(alloc, head, thread, tag)?;
+    items.push(more)?;
+    Ok(Sexp::List(items))
+}
+
+fn write_string(alloc: Global, text: &Text, repl_result: bool) -> Result<Sexp, NoMemory>
+    ensures { IfOk result (λ x. x ≡ outgoing.write_string_form text.now repl_result) }
+{
+    let mut items = pair(alloc, symbol(alloc, ":WRITE-STRING")?, string(alloc, text)?)?;
+    if repl_result {
+        items.push(symbol(alloc, ":REPL-RESULT")?)?;
+    }
+    Ok(Sexp::List(items))
+}
+
+fn restart_line(alloc: Global, line: &RestartLine) -> Result<Sexp, NoMemory>
+    ensures { IfOk result (λ x. x ≡ outgoing.restart_form line.now) }
+{
+    let items = pair(
+        alloc,
+        string(alloc, &line.name)?,
+        string(alloc, &line.text)?,
+    )?;
+    Ok(Sexp::List(items))
+}
+
+fn frame_line(alloc: Global, line: &FrameLine) -> Result<Sexp, NoMemory>
+    requires { line.now.number < 2 ^ 63 }
+    ensures { IfOk result (λ x. x ≡ outgoing.frame_form line.now) }
+{
+    let items = pair(alloc, number(line.number), string(alloc, &line.text)?)?;
+    Ok(Sexp::List(items))
+}
+
+fn restart_lines(alloc: Global, lines: &[RestartLine]) -> Result<Sexp, NoMemory>
+    ensures { IfOk result (λ x. x ≡ form.List (map outgoing.restart_form lines.now)) }
+{
+    let mut items = Rows::new(alloc);
+    for line in lines {
+        items.push(restart_line(alloc, line)?)?;
+    }
+    Ok(Sexp::List(items))
+}
+
+fn frame_lines(alloc: Global, lines: &[FrameLine]) -> Result<Sexp, NoMemory>
+    requires { All (λ line. line.number < 2 ^ 63) lines.now }
+    ensures { IfOk result (λ x. x ≡ form.List (map outgoing.frame_form lines.now)) }
+{
+    let mut items = Rows::new(alloc);
+    for line in lines {
+        items.push(frame_line(alloc, line)?)?;
+    }
+    Ok(Sexp::List(items))
+}
+
+fn ids(alloc: Global, ids: &[i64]) -> Result<Sexp, NoMemory>
+    ensures { IfOk result (λ x. x ≡ form.List (map form.Int ids.now)) }
+{
+    let mut items = Rows::new(alloc);
+    for id in ids {
+        items.push(Sexp::Int(*id))?;
+    }
+    Ok(Sexp::List(items))
+}
+
+fn heading(alloc: Global, message: &Text, type_line: &Text) -> Result<Sexp, NoMemory>
+    ensures { IfOk result (λ x. x ≡ outgoing.heading_form message.now type_line.now) }
+{
+    let items = triple(
+        alloc,
+        string(alloc, message)?,
+        string(alloc, type_line)?,
+        nil(alloc),
+    )?;
+    Ok(Sexp::List(items))
+}
+
+fn return_message(alloc: Global, id: i64, how: &Returned) -> Result<Sexp, NoMemory>
+    ensures { IfOk result (λ x. x ≡ outgoing.message (codes ":RETURN") (outgoing.returned_form how.now ∷ form.Int id ∷ [])) }
+{
+    let items = triple(
+        alloc,
+        symbol(alloc, ":RETURN")?,
+        result_form(alloc, how)?,
+        Sexp::Int(id),
+    )?;
+    Ok(Sexp::List(items))
+}
+
+/// `(HEAD NUMBER TEXT)`
+fn of_number_and_text(
+    alloc: Global,
+    head: &str,
+    number: Sexp,
+    text: &Text,
+) -> Result<Sexp, NoMemory>
+    ensures { IfOk result (λ x. x ≡ outgoing.message head.now (number ∷ form.Str text.now ∷ [])) }
+{
+    let items = triple(alloc, symbol(alloc, head)?, number, string(alloc, text)?)?;
+    Ok(Sexp::List(items))
+}
+
+/// `(HEAD THREAD TAG)`
+fn of_question(alloc: Global, head: &str, thread: u64, tag: u64) -> Result<Sexp, NoMemory>
+    requires thread { thread < 2 ^ 63 }
+    requires tag { tag < 2 ^ 63 }
+    ensures { IfOk result (λ x. x ≡ outgoing.message head.now (outgoing.number thread ∷ outgoing.number tag ∷ [])) }
+{
+    Ok(Sexp::List(of_thread(alloc, head, thread, tag)?))
+}
+
+fn yes_no(alloc: Global, thread: u64, tag: u64, text: &Text) -> Result<Sexp, NoMemory>
+    requires thread { thread < 2 ^ 63 }
+    requires tag { tag < 2 ^ 63 }
+    ensures { IfOk result (λ x. x ≡ outgoing.message (codes ":Y-OR-N-P") (outgoing.number thread ∷ outgoing.number tag ∷ form.Str text.now ∷ [])) }
+{
+    let text = string(alloc, text)?;
+    of_thread_and(alloc, ":Y-OR-N-P", thread, tag, text)
+}
+
+/// `(HEAD THREAD LEVEL nil)`
+fn of_level(alloc: Global, head: &str, thread: u64, level: u64) -> Result<Sexp, NoMemory>
+    requires thread { thread < 2 ^ 63 }
+    requires level { level < 2 ^ 63 }
+    ensures { IfOk result (λ x. x ≡ outgoing.message head.now (outgoing.number thread ∷ outgoing.number level ∷ outgoing.nil ∷ [])) }
+{
+    of_thread_and(alloc, head, thread, level, nil(alloc))
+}
+
+/// A debugger level: its parts after the thread and the level, as forms.
+#[derive(Drop)]
+struct LevelParts {
+    heading: Sexp,
+    restarts: Sexp,
+    frames: Sexp,
+    continuations: Sexp,
+}
+
+fn debug(alloc: Global, thread: u64, level: u64, parts: LevelParts) -> Result<Sexp, NoMemory>
+    requires thread { thread < 2 ^ 63 }
+    requires level { level < 2 ^ 63 }
+    ensures { IfOk result (λ x. x ≡ outgoing.message (codes ":DEBUG") (outgoing.number thread ∷ outgoing.number level ∷ parts.heading ∷ parts.restarts ∷ parts.frames ∷ parts.continuations ∷ [])) }
+{
+    let mut items = of_thread(alloc, ":DEBUG", thread, level)?;
+    items.push(parts.heading)?;
+    items.push(parts.restarts)?;
+    items.push(parts.frames)?;
+    items.push(parts.continuations)?;
+    Ok(Sexp::List(items))
+}
+
+/// The form of a message. Tokens are in upper case, as the reader gives them.
+pub fn to_sexp(alloc: Global, m: &ToEmacs) -> Result<Sexp, NoMemory>
+    requires { HasSmallNumbers m.now }
+    ensures { IfOk result (λ x. x ≡ form_of m.now) }
+{
+    match m {
+        ToEmacs::Return { id, result: how } => return_message(alloc, *id, how),
+        ToEmacs::InvalidRpc { id, text } => {
+            of_number_and_text(alloc, ":INVALID-RPC", integer(id), text)
+        }
+        ToEmacs::ReaderError { packet, text } => of_texts(alloc, ":READER-ERROR", packet, text),
+        ToEmacs::WriteString { text, repl_result } => write_string(alloc, text, *repl_result),
+        ToEmacs::ReadString { thread, tag } => of_question(alloc, ":READ-STRING", *thread, *tag),
+        ToEmacs::ReadAborted { thread, tag } => of_question(alloc, ":READ-ABORTED", *thread, *tag),
+        ToEmacs::YesNo { thread, tag, text } => yes_no(alloc, *thread, *tag, text),
+        ToEmacs::NewPackage { name, prompt } => of_texts(alloc, ":NEW-PACKAGE", name, prompt),
+        ToEmacs::Debug {
+            thread,
+            level,
+            message,
+            type_line,
+            restarts,
+            frames,
+            continuations,
+        } => {
+            let parts = LevelParts {
+                heading: heading(alloc, message, type_line)?,
+                restarts: restart_lines(alloc, restarts.as_slice())?,
+                frames: frame_lines(alloc, frames.as_slice())?,
+                continuations: ids(alloc, continuations.as_slice())?,
+            };
+            debug(alloc, *thread, *level, parts)
+        }
+        ToEmacs::DebugActivate { thread, level } => of_level(
+            alloc,
+            ":DEBUG-ACTIVATE",
+            *thread,
+            *level,
+        ),
+        ToEmacs::DebugReturn { thread, level } => of_level(alloc, ":DEBUG-RETURN", *thread, *level),
+        ToEmacs::DebugCondition { thread, text } => {
+            of_number_and_text(alloc, ":DEBUG-CONDITION", number(*thread), text)
+        }
+    }
+}
