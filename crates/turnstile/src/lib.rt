@@ -21,5 +21,6 @@ pub use hall::Hall;
 pub use kept::Kept;
 pub use seat::Seat;
 pub use turn::Turn;
-pub use view::Account;
 
+#[cfg(test)]
+mod tests;
