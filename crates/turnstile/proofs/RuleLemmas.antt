@@ -280,10 +280,10 @@ module _ {T E : Type 0} (number_of : E → ℕ) (history : T → List E) where
       } in
       let g = r.sound id v at live in
       let fresh : (d : View E) → IsSound number_of (turn s) r.first.made r.log d → AllByRecursion (λ (a : Account E). a.number ≢ v.made + 1) d.joined = λ d k.
-          all_weaker (IsJoined r.log r.first.made d) (λ (a : Account E). a.number ≢ v.made + 1) (λ a h e. let le = h.1 in omega arith) d.joined k.joined in
+      all_weaker (IsJoined r.log r.first.made d) (λ (a : Account E). a.number ≢ v.made + 1) (λ a h e. let le = h.1 in omega arith) d.joined k.joined in
       let beside : (j : ℕ) (d : View E) → get_elem? vs j ≡ some d → AreApart right d × AreApart d right = each_set (λ j d. AreApart right d × AreApart d right) s.views id left
-          ((λ _ _. ((λ b. absurd (off b)), (λ e. let le = g.number_made in omega arith), tt)), (λ _ _. ((λ _. refl), (λ e. let le = g.number_made in omega arith), fresh v g)))
-          (λ j d ne at'. ((λ _ l. let k = r.sound j d at' l in let le = k.number_made in ((λ b. absurd (off b)), (λ e. omega arith), tt)), (λ l _. let k = r.sound j d at' l in let le = k.number_made in ((λ _. refl), (λ e. omega arith), fresh d k)))) in
+      ((λ _ _. ((λ b. absurd (off b)), (λ e. let le = g.number_made in omega arith), tt)), (λ _ _. ((λ _. refl), (λ e. let le = g.number_made in omega arith), fresh v g)))
+      (λ j d ne at'. ((λ _ l. let k = r.sound j d at' l in let le = k.number_made in ((λ b. absurd (off b)), (λ e. omega arith), tt)), (λ l _. let k = r.sound j d at' l in let le = k.number_made in ((λ _. refl), (λ e. omega arith), fresh d k)))) in
       let p = g.covers.0 in
       let seen_made : AllByRecursion (IsMade r.first.made) v.seen = all_left (IsMade r.first.made) v.seen p.0 (subst (λ l. AllByRecursion (IsMade r.first.made) l) (sym p.1) r.numbers) in
       record {
@@ -326,11 +326,11 @@ module _ {T E : Type 0} (number_of : E → ℕ) (history : T → List E) where
       let K : ℕ → View E → Type 0 = λ j d. d.is_live ≡ true → IsSound number_of (turn s) v.made r.log d in
       let vw = r.apart id other v w at at' en live live' in
       let pairs : (k l : ℕ) (d x : View E) → k ≢ other → l ≢ other → get_elem? vs k ≡ some d → get_elem? vs l ≡ some x → k ≢ l → AreApart d x = λ k l d x nk nl ak al.
-          each_set (λ k d. k ≢ other → k ≢ l → AreApart d x) s.views id both
-          (λ _. each_set (λ l x. l ≢ other → id ≢ l → AreApart both x) s.views id both (λ _ no. absurd (no refl))
-            (λ l x _ al' no nl' p q. let a = r.apart id l v x at al' nl' p q in (a.0, a.1, ((r.apart l other x w al' at' no q live').1, a.2))) l x al nl)
-          (λ k d _ ak' _. each_set (λ l x. k ≢ l → AreApart d x) s.views id both (λ kl. r.apart k id d v ak' at kl) (λ l x _ al' kl. r.apart k l d x ak' al' kl) l x al)
-          k d ak nk in
+      each_set (λ k d. k ≢ other → k ≢ l → AreApart d x) s.views id both
+      (λ _. each_set (λ l x. l ≢ other → id ≢ l → AreApart both x) s.views id both (λ _ no. absurd (no refl))
+      (λ l x _ al' no nl' p q. let a = r.apart id l v x at al' nl' p q in (a.0, a.1, ((r.apart l other x w al' at' no q live').1, a.2))) l x al nl)
+      (λ k d _ ak' _. each_set (λ l x. k ≢ l → AreApart d x) s.views id both (λ kl. r.apart k id d v ak' at kl) (λ l x _ al' kl. r.apart k l d x ak' al' kl) l x al)
+      k d ak nk in
       record {
         log = r.log;
         first = both;
@@ -363,8 +363,8 @@ module _ {T E : Type 0} (number_of : E → ℕ) (history : T → List E) where
       dite (ℕ_discrete (turn s) 0)
       (λ none_has. let h = r.home none_has in (h.0, h.1, goes_on s r id v (history h.0) at live h.2, subst (λ (z : ℕ × List E). AllByRecursion (IsMade z.0) z.1) (λ i. (sym top i, sym h.2 i)) r.numbers))
       (λ taken. let b = r.taken taken in absurd (dite (ℕ_discrete b.0 id)
-          (λ mine. true≢false (sym b.3 ∙ ap (λ (u : View E). u.has_turn) (some-injective b.1 v (sym b.2 ∙ ap (get_elem? s.views) mine ∙ at)) ∙ free))
-          (λ not. let two = two_live s.views b.0 id b.1 v b.2 at not b.4 live in omega arith)))
+      (λ mine. true≢false (sym b.3 ∙ ap (λ (u : View E). u.has_turn) (some-injective b.1 v (sym b.2 ∙ ap (get_elem? s.views) mine ∙ at)) ∙ free))
+      (λ not. let two = two_live s.views b.0 id b.1 v b.2 at not b.4 live in omega arith)))
 
   pub opens : (changes : ℕ) (x : T) → history x ≡ [] → Rule record { words = 0 ∷ 0 ∷ changes ∷ 0 ∷ []; homes = some (Some x) ∷ []; views = first_view ∷ [] }
   opens changes x empty = record {

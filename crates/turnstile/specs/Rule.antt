@@ -9,6 +9,7 @@ use Rattle.turnstile.specs.declared.view.View.{View}
 use Rattle.turnstile.specs.History.{own, Covers}
 use Rattle.turnstile.specs.Seats.{stands}
 
+-- 1 for true
 abbrev pub one : Bool → ℕ
 one true = 1
 one false = 0
@@ -24,6 +25,7 @@ module _ {E : Type 0} where
   AreApart view other = view.is_live ≡ true → other.is_live ≡ true →
       (view.has_turn ≡ true → other.has_turn ≡ false) × (other.number ≢ view.number) × AllByRecursion (λ (account : Account E). account.number ≢ other.number) view.joined
 
+  -- what the seat with this view has seen
   abbrev pub account_in : View E → Account E
   account_in view = record { number = view.number; seen = view.seen }
 
@@ -32,7 +34,7 @@ module _ {E : Type 0} (number_of : E → ℕ) where
   abbrev pub GoesOn : View E → List E → Type 0
   GoesOn view history = Covers number_of history (account_in view) × AllByRecursion (Covers number_of history) view.joined
 
-  -- a live seat with the turn has seen the whole history. The first seat has made its number, and the numbers that it joined, which are others
+  -- What holds of each live seat. Where it has the turn, it has seen the whole history. The history covers what it has seen and what the seats that it joined had seen. The first seat made its number and theirs, which are others
   pub record IsSound (turn made : ℕ) (log : List E) (view : View E) : Type 0 where
     pub has_turn : view.has_turn ≡ true → (turn ≢ 0) × (view.seen ≡ log)
     pub number_made : view.number ≤ made
@@ -40,6 +42,7 @@ module _ {E : Type 0} (number_of : E → ℕ) where
     pub joined : AllByRecursion (λ (account : Account E). Covers number_of log account × (account.number ≤ made) × (account.number ≢ view.number)) view.joined
 
   module _ {T : Type 0} (history : T → List E) where
+    -- The rule. There is one history, the log, whose length is published, and which has only entries of numbers that the first seat made. Either nobody has the turn and the value, at home, stands for the log, or one live seat has it. As many seats are live as were made and not joined
     pub record IsOrderly (s : State (Option T) (View E)) : Type 0 where
       pub log : List E
       pub first : View E
@@ -87,6 +90,7 @@ module _ {T E : Type 0} where
   abbrev pub Frees : Me (Option T) (View E) → Me (Option T) (View E) → Type 0
   Frees old new = (new.0 ≡ stands old.0 old.0.seen false false) × (new.1 ≡ [])
 
+  -- nothing that the rule speaks of changed
   abbrev pub Stays : Me (Option T) (View E) → Me (Option T) (View E) → Type 0
   Stays old new = new ≡ old
 

@@ -38,20 +38,23 @@ module _ {E : Type 0} where
   abbrev pub spent : View E
   spent = record { number = 0; made = 0; joined = []; seen = []; has_turn = false; has_slot = false; is_live = false }
 
+  -- the view of the first seat once it has split off another
   abbrev pub split_left : View E → View E
   split_left view = record view { made = view.made + 1 }
 
+  -- the view of the seat that is split off: its number is new, and it has seen what the first seat has
   abbrev pub split_right : View E → View E
   split_right view = record { number = view.made + 1; made = 0; joined = []; seen = view.seen; has_turn = false; has_slot = false; is_live = true }
 
+  -- the view of the first seat once it has joined another: it keeps what that one had seen
   abbrev pub joined_with : View E → View E → View E
   joined_with view other = record view { joined = record { number = other.number; seen = other.seen } ∷ view.joined }
 
-  -- the seat has seen this; does it have the turn, and the slot?
+  -- the view of a seat that has now seen this, and does or doesn't have the turn, and the slot
   abbrev pub stands : View E → List E → Bool → Bool → View E
   stands view seen has_turn has_slot = record view { seen = seen; has_turn = has_turn; has_slot = has_slot }
 
-  -- the view of a badge that has one
+  -- the view of a badge, where it has one
   abbrev pub view_in : List (View E) → View E
   view_in [] = spent
   view_in (view ∷ views) = view

@@ -1,4 +1,4 @@
-// The rule of the table, and what each of its steps tells the seat that makes it.
+//! The rule of the table, and what each of its steps tells the seat that makes it.
 ghost use Rattle.turnstile.specs.Rule.{IsOrderly, Takes, ReturnsSlot, TakesSlot, Publishes, Frees, Stays, StaysFirst};
 ghost use Rattle.turnstile.specs.Seats.{first_view, split_left, split_right, joined_with, spent};
 
@@ -19,6 +19,7 @@ pub(crate) const CHANGES: usize = 2;
 /// The word with the count of the seats that rest.
 pub(crate) const RESTING: usize = 3;
 
+/// What holds of the table between any two steps.
 pub struct Order;
 
 impl<V: Kept> TableRule<Option<V>, View<V::Entry>, ()> for Order {

@@ -39,11 +39,7 @@ fn look<V: Kept>(hall: &Hall<V>) {
 }
 
 // Sleeps until the turn is this seat's.
-fn wait<V: Kept, R: Wait>(
-    rt: &R,
-    hall: &Hall<V>,
-    place: &mut Place<Option<V>, View<V::Entry>>,
-) -> V
+fn wait<V: Kept, R: Wait>(rt: &R, hall: &Hall<V>, place: &mut Place<Option<V>, View<V::Entry>>) -> V
     requires hall { place.old.table_id ≡ hall.now }
     requires live { (place.old.me.0.is_live ≡ true) × (place.old.me.1 ≡ []) }
     ensures place { (place.new.table_id ≡ place.old.table_id) × (place.new.id ≡ place.old.id) }

@@ -154,12 +154,7 @@ fn work<R: Wait>(rt: &R, hall: &Hall<Log>, seat: &mut Seat<Entry>, job: Job)
     }
 }
 
-fn work_all<R: Threads + Wait + Sync>(
-    rt: &R,
-    hall: &Hall<Log>,
-    seats: &mut [Seat<Entry>],
-    job: Job,
-)
+fn work_all<R: Threads + Wait + Sync>(rt: &R, hall: &Hall<Log>, seats: &mut [Seat<Entry>], job: Job)
     requires { All (λ seat. (seat.hall ≡ hall.now) × (seat.has_turn ≡ false)) seats.old }
     ensures { All (λ seat. (seat.hall ≡ hall.now) × (seat.has_turn ≡ false)) seats.new }
 {
@@ -227,7 +222,9 @@ fn each_call_returns_on_one_thread(rt: HostRuntime) -> Result<(), Fail> {
     first.join(second, &hall);
     assert!(rt; first.number() == 0 && first.joined() == 1 && first.made() == 1);
     let log = hall.close(first);
-    let [a, b] = log.entries.as_slice() else { panic!(rt; "not two entries") };
+    let [a, b] = log.entries.as_slice() else {
+        panic!(rt; "not two entries")
+    };
     assert!(rt; a.seat == 1 && a.n == 7 && b.seat == 0 && b.n == 8);
     Ok(())
 }

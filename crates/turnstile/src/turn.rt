@@ -50,11 +50,7 @@ impl<V: Kept> Turn<V> {
 }
 
 // Writes the count of changes where it is another, and says whether it is.
-fn tell<V: Kept>(
-    hall: &Hall<V>,
-    place: &mut Place<Option<V>, View<V::Entry>>,
-    changes: u64,
-) -> bool
+fn tell<V: Kept>(hall: &Hall<V>, place: &mut Place<Option<V>, View<V::Entry>>, changes: u64) -> bool
     requires { place.old.table_id ≡ hall.now }
     ensures place { (place.new.table_id ≡ place.old.table_id) × (place.new.id ≡ place.old.id) }
     ensures me { place.new.me ≡ place.old.me }

@@ -7,10 +7,14 @@ pub join_seat-requires : goal.join_seat-requires
 join_seat-requires g c =
     let is = ap view_in (sym c.into_seat-place.ensures.2) ∙ ap (λ b. view_in b.views) c.replace.ensures.value in
     let b = c.into_badge.ensures.view in
-    let other = ap view_in (sym c.into_seat.ensures.2 ∙ b.1) in
-    (search rules, search rules, search rules, search rules,
-    joins g.V.Kept.number_of g.V.Kept.history _ _ _ _ (ap (λ v. v.number) is ∙ (ap (λ k. k.number) c.self.view_is ∙ c.requires.first)) (ap (λ v. v.is_live) is ∙ c.self.invariant.is_live) (ap (λ v. v.is_live) other ∙ b.3)
-        (ap (λ v. v.has_turn) other ∙ (ap (λ k. k.has_turn) b.2 ∙ c.requires.free.1)))
+    let other = ap view_in (sym c.into_seat.ensures.2 ∙ b.1) in (
+      search rules,
+      search rules,
+      search rules,
+      search rules,
+      joins g.V.Kept.number_of g.V.Kept.history _ _ _ _ (ap (λ v. v.number) is ∙ (ap (λ k. k.number) c.self.view_is ∙ c.requires.first)) (ap (λ v. v.is_live) is ∙ c.self.invariant.is_live) (ap (λ v. v.is_live) other ∙ b.3)
+          (ap (λ v. v.has_turn) other ∙ (ap (λ k. k.has_turn) b.2 ∙ c.requires.free.1)),
+    )
 
 pub load-requires : goal.load-requires
 load-requires g c =

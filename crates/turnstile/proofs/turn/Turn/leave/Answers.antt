@@ -10,9 +10,12 @@ pub load-requires : goal.load-requires
 load-requires g c =
     let e = c.into_seat-place.ensures in
     let is = ap view_in (sym e.2) ∙ ap (λ b. view_in b.views) c.replace.ensures.value in
-    let i = c.seat.invariant in
-    (search rules, search rules, takes_slot g.V.Kept.number_of g.V.Kept.history _ _ _ c.into_seat-place.result.me.0 (ap (λ l. (c.into_seat-place.result.me.0, l)) e.3) (ap (λ v. v.is_live) is ∙ i.is_live)
-        (ap (λ v. v.has_turn) is ∙ (ap (λ k. k.has_turn) c.seat.view_is ∙ c.requires.turn)) (ap (λ v. v.has_slot) is ∙ i.no_slot))
+    let i = c.seat.invariant in (
+      search rules,
+      search rules,
+      takes_slot g.V.Kept.number_of g.V.Kept.history _ _ _ c.into_seat-place.result.me.0 (ap (λ l. (c.into_seat-place.result.me.0, l)) e.3) (ap (λ v. v.is_live) is ∙ i.is_live)
+          (ap (λ v. v.has_turn) is ∙ (ap (λ k. k.has_turn) c.seat.view_is ∙ c.requires.turn)) (ap (λ v. v.has_slot) is ∙ i.no_slot),
+    )
 
 pub store-requires : goal.store-requires
 store-requires g c =
@@ -25,11 +28,14 @@ store-requires g c =
     let w = stands v v.seen true true in
     let m : c.exchange-empty.new.seat.me ≡ (w, (0, Some x) ∷ []) = c.exchange-empty.ensures.3 ∙ λ i. (f.0 i, (0, Some x) ∷ rest (f.1 i)) in
     let number = ap (λ u. u.number) is ∙ ap (λ k. k.number) c.seat.view_is in
-    let seen = ap (λ u. u.seen) is ∙ ap (λ k. k.seen) c.seat.view_is in
-    (search rules, search rules, publishes g.V.Kept.number_of g.V.Kept.history _ _ _ w x h.0 _ m (ap (λ u. u.is_live) is ∙ c.seat.invariant.is_live) refl
-        (ap (λ l. l ++ h.0) seen ∙ (h.1 ∙ ap g.V.Kept.history (sym c.self.view_is)))
-        (subst (λ n. AllByRecursion (λ e. g.V.Kept.number_of e ≡ n) h.0) (sym number) h.2)
-        c.len-length.ensures)
+    let seen = ap (λ u. u.seen) is ∙ ap (λ k. k.seen) c.seat.view_is in (
+      search rules,
+      search rules,
+      publishes g.V.Kept.number_of g.V.Kept.history _ _ _ w x h.0 _ m (ap (λ u. u.is_live) is ∙ c.seat.invariant.is_live) refl
+          (ap (λ l. l ++ h.0) seen ∙ (h.1 ∙ ap g.V.Kept.history (sym c.self.view_is)))
+          (subst (λ n. AllByRecursion (λ e. g.V.Kept.number_of e ≡ n) h.0) (sym number) h.2)
+          c.len-length.ensures,
+    )
 
 pub swap-found-requires : goal.swap-found-requires
 swap-found-requires g c =
@@ -41,6 +47,9 @@ swap-found-requires g c =
     let p = c.store.ensures.2 x put in
     let w = stands c.exchange-empty.new.seat.me.0 (g.V.Kept.history x) true true in
     let m : c.tell-has_changed.new.place.me ≡ (w, (0, Some x) ∷ []) = c.tell-has_changed.ensures.me ∙ λ i. (p.0 i, (p.1 ∙ put) i) in
-    let live = ap (λ m. m.0.is_live) c.exchange-empty.ensures.3 ∙ (ap (λ u. u.is_live) f.0 ∙ (ap (λ u. u.is_live) is ∙ c.seat.invariant.is_live)) in
-    (search rules, search rules, subst (λ n. Allows (IsOrderly g.V.Kept.number_of g.V.Kept.history) n c.tell-has_changed.new.place.id c.tell-has_changed.new.place.me 0 (λ _. 0) (λ _. Frees c.tell-has_changed.new.place.me)) (sym c.hall.invariant.1)
-        (frees g.V.Kept.number_of g.V.Kept.history _ _ w x m live refl refl))
+    let live = ap (λ m. m.0.is_live) c.exchange-empty.ensures.3 ∙ (ap (λ u. u.is_live) f.0 ∙ (ap (λ u. u.is_live) is ∙ c.seat.invariant.is_live)) in (
+      search rules,
+      search rules,
+      subst (λ n. Allows (IsOrderly g.V.Kept.number_of g.V.Kept.history) n c.tell-has_changed.new.place.id c.tell-has_changed.new.place.me 0 (λ _. 0) (λ _. Frees c.tell-has_changed.new.place.me)) (sym c.hall.invariant.1)
+          (frees g.V.Kept.number_of g.V.Kept.history _ _ w x m live refl refl),
+    )
