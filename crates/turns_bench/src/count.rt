@@ -1,5 +1,5 @@
 //! The value that threads take turns at.
-ghost use Rattle.std.specs.Prelude.{◌≡◌, ℕ, []};
+ghost use Rattle.std.specs.Prelude.{[]};
 
 use turnstile::Kept;
 

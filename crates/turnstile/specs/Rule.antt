@@ -6,7 +6,7 @@ use lib.ListN.{get_elem?}
 use Rattle.atomic_table.specs.Table.{State, Me}
 use Rattle.turnstile.specs.declared.view.Account.{Account}
 use Rattle.turnstile.specs.declared.view.View.{View}
-use Rattle.turnstile.specs.History.{own, Covers}
+use Rattle.turnstile.specs.History.{Covers}
 use Rattle.turnstile.specs.Seats.{stands}
 
 -- 1 for true

@@ -1,5 +1,5 @@
 //! The seats of a hall.
-ghost use Rattle.std.specs.Prelude.{◌≡◌, ◌+◌, ◌<◌, ◌^◌, [], ◌∷◌, true, false, length, Some, None};
+ghost use Rattle.std.specs.Prelude.{◌≡◌, ◌+◌, ◌<◌, ◌^◌, [], ◌∷◌, true, false, length};
 ghost use Rattle.std.specs.List.{AllByRecursion};
 ghost use mathlib.Core.List.{IsPrefix};
 ghost use Rattle.turnstile.specs.History.{own, Covers};
@@ -7,7 +7,7 @@ ghost use Rattle.turnstile.specs.Seats.{state_of, account_of, first_view, new_se
 
 use crate::hall::Hall;
 use crate::kept::Kept;
-use crate::rule::{CHANGES, OneSeat, RESTING, ReturnSlot, Stay, StayFirst, TURN, Take};
+use crate::rule::{CHANGES, OneSeat, RESTING, ReturnSlot, Stay, StayFirst, TURN};
 use crate::taking::take;
 use crate::turn::Turn;
 use crate::view::View;
