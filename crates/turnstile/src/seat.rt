@@ -105,8 +105,8 @@ impl<E> Seat<E> {
         Turn { value }
     }
 
-    /// Rests until a turn that changed something since this seat's last turn was left, or for
-    /// less: it may come back at any time. Takes no memory.
+    /// Rests until a turn is left that changed something since this seat's last turn. It may come
+    /// back sooner, at any time. Takes no memory.
     pub fn rest<V: Kept<Entry = E>, R: Wait>(&mut self, rt: &R, hall: &Hall<V>)
         requires { self.old.hall ≡ hall.now }
         ensures { self.new ≡ self.old }
