@@ -1,0 +1,14 @@
+use Rattle.std.proofs.Common.{◌≡◌, ◌≤◌, ◌<◌, ◌∙◌, ◌-◌, ap, sym, take, length, rules}
+use Rattle.lisp_packages.specs.Packages.{own_at}
+use Rattle.lisp_packages.proofs.PackagesLemmas.{set-own, with_own-past}
+use Rattle.lisp_packages.proofs.packages.Packages.drop_last.Goals as goal
+
+pub returns-then-place-len : goal.returns-then-place-len
+returns-then-place-len c =
+    let within : c.args.place < length c.args.self.now = search rules in
+    set-own c.self.inside.list.items c.args.self.now c.args.place c.index_mut.result.now c.drop_last.new.self (λ own. take (length own - 1) own) c.self.view_is within c.index_mut.ensures.value c.drop_last.ensures
+
+pub returns-else-place-len : goal.returns-else-place-len
+returns-else-place-len c =
+    let past : length c.args.self.now ≤ c.args.place = search rules in
+    sym (with_own-past c.args.self.now c.args.place (take (length (own_at c.args.self.now c.args.place) - 1) (own_at c.args.self.now c.args.place)) past)

@@ -1,0 +1,9 @@
+use Rattle.std.proofs.Common.{◌∙◌, ◌++◌, ◌∷◌, [], ap, refl, sym}
+use Rattle.lisp_packages.specs.Entries.{put_entry}
+use Rattle.lisp_packages.specs.Made.{shortened}
+use Rattle.lisp_packages.proofs.PackagesLemmas.{set-own}
+use Rattle.lisp_packages.proofs.MadeLemmas.{shortened-with_own}
+use Rattle.lisp_packages.proofs.packages.Packages.put.Goals as goal
+
+pub returns-clause-ok : goal.returns-clause-ok
+returns-clause-ok c = set-own c.self.inside.list.items c.args.self.now c.args.place c.index_mut.result.now c.put.new.self (λ own. put_entry own c.args.entry) c.self.view_is c.requires c.index_mut.ensures.value c.in_ok-put.ensures.ok

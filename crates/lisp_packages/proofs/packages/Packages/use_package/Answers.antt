@@ -1,0 +1,6 @@
+use Rattle.std.proofs.Common.{sym, subst}
+use Rattle.lisp_packages.specs.Changes.{KeepsOthers}
+use Rattle.lisp_packages.proofs.packages.Packages.use_package.Goals as goal
+
+pub returns-clause-others : goal.returns-clause-others
+returns-clause-others c = subst (λ p. KeepsOthers p c.args.self.now c.use_at.new.self) (sym c.in_ok-place.ensures.ok) c.use_at.ensures.others
