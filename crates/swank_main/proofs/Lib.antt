@@ -1,0 +1,4 @@
+pub mod AnswerLemmas
+pub mod KeptLemmas
+pub mod Lengths
+pub mod SessionLemmas

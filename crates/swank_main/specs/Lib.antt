@@ -1,0 +1,7 @@
+pub mod Answers
+pub mod Ends
+pub mod Info
+pub mod Kept
+pub mod Numbers
+pub mod Request
+pub mod Session

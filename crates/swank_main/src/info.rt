@@ -1,0 +1,106 @@
+ghost use Rattle.std.specs.Prelude.{◌≡◌, [], ◌∷◌, ◌++◌, IfOk, OnOk};
+ghost use Rattle.lisp_data.specs.declared.sexp.Sexp.TheVariants as form;
+ghost use Rattle.swank_main.specs.Info as spec;
+
+use lisp_data::{NoMemory, Rows, Sexp, Text};
+use std::alloc::Global;
+
+fn symbol(alloc: Global, token: &str) -> Result<Sexp, NoMemory>
+    ensures { IfOk result (λ x. x ≡ form.Sym token.now) }
+{
+    Ok(Sexp::Sym(Text::of(alloc, token)?))
+}
+
+fn string(alloc: Global, text: &str) -> Result<Sexp, NoMemory>
+    ensures { IfOk result (λ x. x ≡ form.Str text.now) }
+{
+    Ok(Sexp::Str(Text::of(alloc, text)?))
+}
+
+fn list<const N: usize>(alloc: Global, items: [Sexp; N]) -> Result<Sexp, NoMemory>
+    ensures { IfOk result (λ x. x ≡ form.List items.entry) }
+{
+    Ok(Sexp::List(Rows::from_vec(Vec::from_array(alloc, items)?)))
+}
+
+fn nil(alloc: Global) -> Sexp
+    ensures { result ≡ form.List [] }
+{
+    Sexp::List(Rows::new(alloc))
+}
+
+fn encoding(alloc: Global) -> Result<Sexp, NoMemory>
+    ensures { IfOk result (λ x. x ≡ spec.encoding) }
+{
+    let systems = [string(alloc, "utf-8-unix")?];
+    let parts = [symbol(alloc, ":CODING-SYSTEMS")?, list(alloc, systems)?];
+    Ok(list(alloc, parts)?)
+}
+
+fn implementation(alloc: Global) -> Result<Sexp, NoMemory>
+    ensures { IfOk result (λ x. x ≡ spec.implementation) }
+{
+    let parts = [
+        symbol(alloc, ":TYPE")?,
+        string(alloc, "Profile")?,
+        symbol(alloc, ":NAME")?,
+        string(alloc, "profile")?,
+        symbol(alloc, ":VERSION")?,
+        string(alloc, "1")?,
+    ];
+    Ok(list(alloc, parts)?)
+}
+
+fn machine(alloc: Global) -> Result<Sexp, NoMemory>
+    ensures { IfOk result (λ x. x ≡ spec.machine) }
+{
+    let parts = [symbol(alloc, ":INSTANCE")?, string(alloc, "none")?];
+    Ok(list(alloc, parts)?)
+}
+
+fn package_line(alloc: Global, name: &str, prompt: &str) -> Result<Sexp, NoMemory>
+    ensures { IfOk result (λ x. x ≡ spec.package_line name.now prompt.now) }
+{
+    let parts = [
+        symbol(alloc, ":NAME")?,
+        string(alloc, name)?,
+        symbol(alloc, ":PROMPT")?,
+        string(alloc, prompt)?,
+    ];
+    Ok(list(alloc, parts)?)
+}
+
+/// Adds a key and its value at the end.
+fn add(alloc: Global, parts: &mut Rows<Sexp>, key: &str, value: Sexp) -> Result<(), NoMemory>
+    ensures { OnOk result (parts.new ≡ parts.old ++ form.Sym key.now ∷ value ∷ []) }
+{
+    parts.push(symbol(alloc, key)?)?;
+    parts.push(value)?;
+    Ok(())
+}
+
+fn about_server(alloc: Global) -> Result<Rows<Sexp>, NoMemory>
+    ensures { IfOk result (λ parts. parts ≡ spec.about_server) }
+{
+    let mut parts = Rows::new(alloc);
+    add(alloc, &mut parts, ":PID", Sexp::Int(0))?;
+    add(alloc, &mut parts, ":STYLE", symbol(alloc, ":SPAWN")?)?;
+    add(alloc, &mut parts, ":ENCODING", encoding(alloc)?)?;
+    let implementation = implementation(alloc)?;
+    add(alloc, &mut parts, ":LISP-IMPLEMENTATION", implementation)?;
+    add(alloc, &mut parts, ":MACHINE", machine(alloc)?)?;
+    Ok(parts)
+}
+
+/// What the server says of itself, with the name and the prompt of the global package.
+pub fn connection_info(alloc: Global, name: &str, prompt: &str) -> Result<Sexp, NoMemory>
+    ensures { IfOk result (λ x. x ≡ spec.info name.now prompt.now) }
+{
+    let mut parts = about_server(alloc)?;
+    add(alloc, &mut parts, ":FEATURES", nil(alloc))?;
+    add(alloc, &mut parts, ":MODULES", nil(alloc))?;
+    let package = package_line(alloc, name, prompt)?;
+    add(alloc, &mut parts, ":PACKAGE", package)?;
+    add(alloc, &mut parts, ":VERSION", string(alloc, "2.28")?)?;
+    Ok(Sexp::List(parts))
+}
