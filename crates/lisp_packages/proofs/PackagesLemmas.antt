@@ -1,5 +1,5 @@
 -- How a change at one place of the list of packages is read.
-use Rattle.std.proofs.Common.{◌≡◌, ◌≢◌, slice_get, ℕ, zero, suc, ◌-◌, ◌<◌, ◌≤◌, Bool, true, false, cond, List, [], ◌∷◌, ◌++◌, refl, sym, ap, subst, ◌∙◌, length, take, set, get_or, arith}
+use Rattle.std.proofs.Common.{◌≡◌, ◌≢◌, slice_get, ℕ, zero, suc, ◌<◌, ◌≤◌, List, [], ◌∷◌, refl, ap, subst, ◌∙◌, length, set, get_or, arith}
 use Rattle.lisp_packages.specs.declared.entry.Entry.{Entry}
 use Rattle.lisp_packages.specs.declared.lisp_package.Package.{Package}
 use Rattle.lisp_packages.specs.Packages.{own_at, uses_at, with_own, with_uses}

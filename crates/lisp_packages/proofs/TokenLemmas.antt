@@ -1,9 +1,9 @@
 -- Where a token has its colons.
-use Rattle.std.proofs.Common.{◌≡◌, ◌≢◌, ℕ, ◌+◌, ◌<◌, ◌==◌, Bool, true, false, cond, not, ◌||◌, List, [], ◌∷◌, refl, sym, ap, subst, ◌∙◌, length, take, drop, if◌then◌else◌, arith}
+use Rattle.std.proofs.Common.{◌≡◌, ◌≢◌, ℕ, ◌+◌, ◌<◌, Bool, true, false, cond, not, ◌||◌, List, [], ◌∷◌, refl, ap, length, take, drop, if◌then◌else◌, arith}
 use Rattle.std.specs.List.{list_any, position_or_len, prefix_len, before_first, after_first}
 use Rattle.std.proofs.lemmas.List.{length-take}
 use Rattle.lisp_packages.specs.declared.lisp_package.Package.{Package}
-use Rattle.lisp_packages.specs.Naming.{Named, is_colon, named, interned, qualified, external_named, prefixed, in_named}
+use Rattle.lisp_packages.specs.Naming.{is_colon, named, interned, qualified, external_named, prefixed, in_named}
 
 pub none-any : (xs : List ℕ) → position_or_len is_colon xs ≡ length xs → list_any is_colon xs ≡ false
 none-any [] h = refl

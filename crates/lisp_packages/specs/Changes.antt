@@ -10,8 +10,8 @@ use Rattle.lisp_packages.specs.declared.fault.NameFault.{NameFault}
 use Rattle.lisp_packages.specs.declared.fault.NameFault.TheVariants as fault
 use Rattle.lisp_packages.specs.declared.lisp_package.Package.{Package}
 use Rattle.lisp_packages.specs.Entries.{put_entry}
-use Rattle.lisp_packages.specs.Naming.{keyword, Named, made_symbol, new_entry, in_named}
-use Rattle.lisp_packages.specs.Packages.{name_at, uses_at, own_at, place_of, accessible, clashes, clashes_for_users, with_own, with_uses}
+use Rattle.lisp_packages.specs.Naming.{keyword, Named, made_symbol, new_entry}
+use Rattle.lisp_packages.specs.Packages.{name_at, uses_at, own_at, accessible, clashes, clashes_for_users, with_own, with_uses}
 
 -- the answer of a change: the packages afterwards
 abbrev pub Changed : Type 0

@@ -1,7 +1,7 @@
 -- Packages and the symbols that are accessible in them. A package is its full name, its nicknames, the places of the packages that
 -- it uses, in order of use, and the entries of the symbols that are present in it, in order of interning. Packages stand in a list,
 -- in order of making, and a package's place is its index there.
-use Rattle.std.specs.Prelude.{◌≡◌, ℕ, zero, suc, ◌+◌, Bool, true, false, ◌||◌, ◌&&◌, not, List, [], ◌∷◌, ◌++◌, Option, None, Some, option_map, unwrap_or, slice_get, if◌then◌else◌, codes}
+use Rattle.std.specs.Prelude.{ℕ, zero, suc, ◌+◌, Bool, false, ◌||◌, ◌&&◌, not, List, [], ◌∷◌, Option, None, Some, option_map, unwrap_or, slice_get, if◌then◌else◌}
 use Rattle.std.specs.List.{list_any, position_from}
 use Rattle.std.specs.Option.{option_map_or, option_or}
 use Rattle.std.specs.Bool.{nat_eq}

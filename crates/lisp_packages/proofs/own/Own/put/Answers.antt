@@ -1,7 +1,6 @@
 use Rattle.std.proofs.Common.{◌∙◌, ap, rules}
 use Rattle.std.specs.Map.{values_of}
 use Rattle.lisp_packages.specs.Entries.{put_entry}
-use Rattle.lisp_packages.specs.Keyed.{IsKeyed}
 use Rattle.lisp_packages.proofs.OwnLemmas.{values-insert_entry, IsKeyed-insert_entry}
 use Rattle.lisp_packages.proofs.own.Own.put.Goals as goal
 

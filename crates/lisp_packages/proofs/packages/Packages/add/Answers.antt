@@ -1,4 +1,4 @@
-use Rattle.std.proofs.Common.{◌∙◌, ◌++◌, ◌∷◌, [], ap, refl, sym}
+use Rattle.std.proofs.Common.{◌∙◌, ap, refl}
 use Rattle.lisp_packages.specs.Entries.{added}
 use Rattle.lisp_packages.specs.Made.{shortened}
 use Rattle.lisp_packages.proofs.PackagesLemmas.{set-own, own_now}

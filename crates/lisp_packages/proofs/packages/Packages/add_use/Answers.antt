@@ -1,7 +1,5 @@
-use Rattle.std.proofs.Common.{◌∙◌, ◌++◌, ◌∷◌, [], ap, refl, sym}
-use Rattle.lisp_packages.specs.Made.{shortened}
+use Rattle.std.proofs.Common.{◌++◌, ◌∷◌, []}
 use Rattle.lisp_packages.proofs.PackagesLemmas.{set-uses}
-use Rattle.lisp_packages.proofs.MadeLemmas.{shortened-with_own}
 use Rattle.lisp_packages.proofs.packages.Packages.add_use.Goals as goal
 
 pub returns-clause-ok : goal.returns-clause-ok

@@ -1,4 +1,4 @@
-use Rattle.std.proofs.Common.{◌≡◌, ◌≤◌, ◌<◌, ◌∙◌, ◌-◌, ap, sym, take, length, rules}
+use Rattle.std.proofs.Common.{◌≤◌, ◌<◌, ◌-◌, sym, take, length, rules}
 use Rattle.lisp_packages.specs.Packages.{own_at}
 use Rattle.lisp_packages.proofs.PackagesLemmas.{set-own, with_own-past}
 use Rattle.lisp_packages.proofs.packages.Packages.drop_last.Goals as goal

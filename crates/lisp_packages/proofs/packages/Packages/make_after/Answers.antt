@@ -1,4 +1,4 @@
-use Rattle.std.proofs.Common.{◌≡◌, ◌∙◌, ap, sym, Ok, Some, true, false, slice_get, rules}
+use Rattle.std.proofs.Common.{◌≡◌, ◌∙◌, ap, sym, Ok, Some, true, false, rules}
 use Rattle.std.specs.Str.{bytes_eq}
 use Rattle.lisp_packages.specs.Causes.{refusal_of}
 use Rattle.lisp_packages.specs.Made.{with_made}

@@ -1,11 +1,8 @@
-use Rattle.std.proofs.Common.{◌≡◌, ◌≢◌, ◌<◌, Ok, Some, [], length, sym, subst, ap, rules, IfOk, IfErr}
-use Rattle.std.specs.List.{position_or_len, before_first, after_first}
+use Rattle.std.proofs.Common.{◌≡◌, Ok, sym, subst, rules, IfOk, IfErr}
 use Rattle.lisp_packages.specs.Causes.{IsCause}
 use Rattle.lisp_packages.specs.Made.{with_made}
-use Rattle.lisp_packages.specs.Naming.{Named, is_colon, keyword, prefixed, qualified, keyword_named}
-use Rattle.lisp_packages.specs.Packages.{place_of}
-use Rattle.lisp_packages.proofs.TokenLemmas.{named-plain, qualified-any, qualified-none, qualified-later, prefixed-named}
-use Rattle.lisp_packages.proofs.MadeLemmas.{in_named-there, in_named-absent}
+use Rattle.lisp_packages.specs.Naming.{Named}
+use Rattle.lisp_packages.proofs.TokenLemmas.{named-plain}
 use Rattle.lisp_packages.proofs.packages.Packages.named_after.Goals as goal
 
 pub returns-in-None-clause-ok : goal.returns-in-None-clause-ok

@@ -1,7 +1,6 @@
 use Rattle.std.proofs.Common.{◌≡◌, ◌∙◌, ap, None, Some, true, false, slice_get, sym, rules}
 use Rattle.lisp_packages.specs.Entries.{entry_of}
 use Rattle.lisp_packages.specs.Made.{has_made}
-use Rattle.lisp_packages.specs.Naming.{new_entry}
 use Rattle.lisp_packages.proofs.MadeLemmas.{present-absent, present-own, present-none, present-made}
 use Rattle.lisp_packages.proofs.packages.Packages.present.Goals as goal
 

@@ -1,8 +1,5 @@
-use Rattle.std.proofs.Common.{◌∙◌, ◌++◌, ◌∷◌, [], ap, refl, sym}
 use Rattle.lisp_packages.specs.Entries.{put_entry}
-use Rattle.lisp_packages.specs.Made.{shortened}
 use Rattle.lisp_packages.proofs.PackagesLemmas.{set-own}
-use Rattle.lisp_packages.proofs.MadeLemmas.{shortened-with_own}
 use Rattle.lisp_packages.proofs.packages.Packages.put.Goals as goal
 
 pub returns-clause-ok : goal.returns-clause-ok

@@ -1,7 +1,7 @@
 use Rattle.std.proofs.Common.{◌≡◌, ◌∙◌, ℕ, Ok, None, Some, ap, sym, subst, rules, IfOk, IfErr}
 use Rattle.lisp_packages.specs.Causes.{IsCause, refusal_of}
 use Rattle.lisp_packages.specs.Made.{with_made}
-use Rattle.lisp_packages.specs.Naming.{Named, keyword, keyword_named, qualified}
+use Rattle.lisp_packages.specs.Naming.{Named, qualified}
 use Rattle.lisp_packages.specs.Packages.{place_of}
 use Rattle.lisp_packages.specs.declared.fault.NameFault.TheVariants.{NoPackage}
 use Rattle.lisp_packages.proofs.MadeLemmas.{in_named-there, in_named-absent}
