@@ -2,7 +2,7 @@
 use Rattle.std.proofs.Common.{◌≡◌, ℕ, List, [], ◌∷◌, ◌++◌, refl, sym, ap, ◌∙◌, append_assoc, append-nil}
 use Rattle.packet_framing.specs.Calls.{Call, fed, answered, Runs, all_fed, given_by, all_given}
 use Rattle.packet_framing.specs.Decoder.{Gives}
-use Rattle.packet_framing.specs.Packets.{Split, after_first, packets, after_payloads}
+use Rattle.packet_framing.specs.Packets.{after_first, packets, after_payloads}
 use Rattle.packet_framing.specs.declared.decoder.Next.{Next}
 use Rattle.packet_framing.specs.declared.decoder.Next.TheVariants.{Packet, NotYet, BadHeader}
 use Rattle.packet_framing.proofs.PacketLemmas.{first_packet-append, first_packet-bad, packets-some}

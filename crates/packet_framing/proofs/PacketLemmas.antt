@@ -4,7 +4,7 @@ use Rattle.std.specs.Prelude.{Option, Some, None, All}
 use Rattle.std.proofs.lemmas.Bool.{cases_lt, leb-true, le-leb, leb-false, lt-leb}
 use Rattle.std.proofs.lemmas.List.{take-append-le, drop-append-le, take_at, drop_at}
 use Rattle.std.proofs.lemmas.List.Elements.{All-head, All-tail}
-use Rattle.packet_framing.specs.Packets.{Split, header_value, payload_of, first_packet, after_first, split_after, packets_up_to, packets, after_payloads, IsBad, IsUnfinished}
+use Rattle.packet_framing.specs.Packets.{Split, header_value, payload_of, first_packet, split_after, packets_up_to, packets, after_payloads, IsBad, IsUnfinished}
 use Rattle.packet_framing.specs.Frames.{header, packet_of, frames}
 use Rattle.packet_framing.proofs.HeaderLemmas.{header-of_some, not_digits-of_none, header_value-header, length-header}
 

@@ -26,11 +26,12 @@ payload_of octets (Some n) = if nat_le n (length octets) then Some (take n octet
 unfoldable pub first_packet : List ℕ → Option (List ℕ × List ℕ)
 first_packet octets = payload_of (drop 6 octets) (header_value (take 6 octets))
 
--- the octets after the packet at the front; all of them where no whole packet stands there
+-- the octets after a packet that was taken from their front; all of them where none was
 abbrev pub rest_of : List ℕ → Option (List ℕ × List ℕ) → List ℕ
 rest_of octets None = octets
 rest_of octets (Some taken) = taken.1
 
+-- the octets after the packet at the front; all of them where no whole packet stands there
 abbrev pub after_first : List ℕ → List ℕ
 after_first octets = rest_of octets (first_packet octets)
 
@@ -59,7 +60,7 @@ unfoldable pub packets_up_to : ℕ → List ℕ → Split
 packets_up_to zero octets = record { payloads = []; rest = octets }
 packets_up_to (suc n) octets = split_after (packets_up_to n) octets (first_packet octets)
 
--- the payloads of the whole packets, one after another from the front, and the rest; there are fewer packets than octets
+-- the payloads of the whole packets, one after another from the front, and the rest; there are no more packets than octets
 abbrev pub packets : List ℕ → Split
 packets octets = packets_up_to (length octets) octets
 
