@@ -38,6 +38,7 @@ text_step case (Sexp-F.Str text) = quoted text
 text_step case (Sexp-F.Sym token) = changed case token
 text_step case (Sexp-F.List items) = in_parentheses (changed case (codes "NIL")) items
 
+-- the text of a form whose symbols' characters are so changed
 abbrev pub text_of : (ℕ → ℕ) → Sexp → List ℕ
 text_of case = fold-Sexp (List ℕ) (text_step case)
 
