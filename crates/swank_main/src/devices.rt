@@ -4,9 +4,7 @@ ghost use Rattle.outside_traits.specs.Sink.{Writes};
 ghost use Rattle.outside_traits.specs.Source.{Reads, ends};
 
 use outside_traits::{Failed, Sink, Source};
-use std::io::{ErrorKind, Read};
-
-const STANDARD_OUTPUT: i32 = 1;
+use std::io::{ErrorKind, Read, Write};
 
 /// A reader as a source, which tells nothing of what is left. A read that was interrupted is made again.
 #[derive(Drop)]
@@ -56,20 +54,20 @@ impl<R: Read> Source for ReaderSource<R> {
     }
 }
 
-/// Standard output as a sink, which tells nothing of what is written. A write to a pipe that nobody reads fails, and raises no
-/// signal.
+/// A writer as a sink, which tells nothing of what is written. A write that was interrupted is made again.
 #[derive(Drop)]
-pub struct StandardOutput {
+pub struct WriterSink<W> {
+    writer: W,
     faults: u64,
 }
 
-impl StandardOutput {
-    pub fn new() -> StandardOutput {
-        StandardOutput { faults: 0 }
+impl<W> WriterSink<W> {
+    pub fn new(writer: W) -> WriterSink<W> {
+        WriterSink { writer, faults: 0 }
     }
 }
 
-impl Sink for StandardOutput {
+impl<W: Write> Sink for WriterSink<W> {
     ghost written = { λ _. None };
 
     ghost faults = { λ s. s.faults };
@@ -81,15 +79,22 @@ impl Sink for StandardOutput {
         ensures bytes { Writes None None result piece.now }
         ensures cause { HasCause self.old.faults self.new.faults result }
     {
-        let taken = io::count(os::write_no_sigpipe(STANDARD_OUTPUT, piece), piece);
-        if taken > 0 {
-            return Ok(taken);
+        for _ in 0..u64::MAX {
+            match self.writer.write(piece) {
+                Ok(n) if n > 0 => return Ok(n),
+                Err(error) if error.kind() == ErrorKind::Interrupted => {}
+                _ => break,
+            }
         }
         self.faults = self.faults.saturating_add(1);
         Err(Failed)
     }
 
     fn finish(&mut self) -> Result<(), Failed> {
-        Ok(())
+        if self.writer.flush().is_ok() {
+            return Ok(());
+        }
+        self.faults = self.faults.saturating_add(1);
+        Err(Failed)
     }
 }

@@ -15,7 +15,7 @@ mod status;
 #[cfg(test)]
 mod tests;
 
-use crate::devices::{ReaderSource, StandardOutput};
+use crate::devices::{ReaderSource, WriterSink};
 use crate::run::run;
 use crate::status::Status;
 use lisp_data::{NoMemory, Rows, Text};
@@ -43,7 +43,7 @@ fn run_command(rt: &HostRuntime) -> Status {
     match words(rt) {
         Ok(words) => {
             let mut input = ReaderSource::new(rt.stdin());
-            let mut output = StandardOutput::new();
+            let mut output = WriterSink::new(rt.stdout());
             run(rt.alloc(), words.as_slice(), &mut input, &mut output).status
         }
         Err(status) => status,

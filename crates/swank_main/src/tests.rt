@@ -1,11 +1,11 @@
-use crate::devices::ReaderSource;
+use crate::devices::{ReaderSource, WriterSink};
 use crate::run::{First, run};
 use crate::status::Status;
 use lisp_data::{NoMemory, Rows, Text};
-use outside_traits::{Failed, MemSink, MemSource, Source};
+use outside_traits::{Failed, MemSink, MemSource, Sink, Source};
 use std::alloc::Global;
 use std::io;
-use std::io::Read;
+use std::io::{Read, Write};
 use std::test::Fail;
 
 const REQUEST: &str = "00003b(:emacs-rex (swank:connection-info) \"COMMON-LISP-USER\" t 1)";
@@ -179,4 +179,32 @@ fn a_reader_fails_once_and_is_asked_again_when_interrupted(rt: HostRuntime) {
     assert_eq!(rt; input.read(&mut buf), Err(Failed));
     assert_eq!(rt; input.read(&mut buf), Ok(1));
     assert_eq!(rt; buf[0], 65);
+}
+
+/// A writer that takes nothing at its first call, and then one octet a call.
+#[derive(Drop)]
+struct Slow {
+    calls: u64,
+}
+
+impl Write for Slow {
+    fn write(&mut self, buf: &[u8]) -> io::Result<usize> {
+        self.calls = self.calls.saturating_add(1);
+        if self.calls == 1 || buf.is_empty() {
+            return Ok(0);
+        }
+        Ok(1)
+    }
+
+    fn flush(&mut self) -> io::Result<()> {
+        Err(io::Error::from(io::ErrorKind::Other))
+    }
+}
+
+#[test]
+fn a_write_that_takes_nothing_is_a_fault(rt: HostRuntime) {
+    let mut output = WriterSink::new(Slow { calls: 0 });
+    assert_eq!(rt; output.write(b"ab"), Err(Failed));
+    assert_eq!(rt; output.write(b"ab"), Ok(1));
+    assert_eq!(rt; output.finish(), Err(Failed));
 }
