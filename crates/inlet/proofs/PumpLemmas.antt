@@ -6,7 +6,7 @@ use Rattle.std.proofs.lemmas.List.{take-append-drop, take-append-le}
 use Rattle.outside_traits.specs.Source.{Reads}
 use Rattle.outside_traits.specs.Told.{BothTold}
 use Rattle.packet_framing.specs.Packets.{first_packet, after_first, rest_of, header_value, payload_of, IsBad, IsUnfinished}
-use Rattle.packet_framing.proofs.PacketLemmas.{Front, front-of_some, some-of_front, shorter, unfinished-length, first_packet-bad}
+use Rattle.packet_framing.proofs.PacketLemmas.{first_packet-completed, shorter, unfinished-length, first_packet-bad}
 use Rattle.inlet.specs.Messages.{Takes}
 use Rattle.inlet.specs.Pump.{Answers, Pumps}
 use Rattle.inlet.specs.Reads.{Feeds}
@@ -101,35 +101,10 @@ pumps-none left kept kept' taken ended result answer = record {
 
 -- ---- how many octets are kept
 
--- a header that was whole before, and whose packet became whole
-grown_by : (kept octets payload rest : List ℕ) (n : ℕ) → header_value (take 6 kept) ≡ Some n → 6 ≤ length kept → first_packet kept ≡ None → first_packet (kept ++ octets) ≡ Some (payload, rest)
-    → length rest < length octets
-grown_by kept octets payload rest n header six none some =
-    let f = front-of_some (kept ++ octets) rest payload some in
-    let same : header_value (take 6 (kept ++ octets)) ≡ Some n = rw (take-append-le 6 kept octets six) header in
-    let room = f.room in
-    let count : f.count ≡ n = cc (f.header, same) in
-    let left : rest ≡ drop f.count (drop 6 (kept ++ octets)) = ap (λ (t : List ℕ × List ℕ). t.1) f.is in
-    elim (cases_lt (length kept) (6 + n)) [
-      | inl short ↦ rw left (omega (arith, length-drop f.count (drop 6 (kept ++ octets)), length-drop 6 (kept ++ octets), length-append kept octets))
-      | inr whole ↦ absurd (let e : first_packet kept ≡ Some (take n (drop 6 kept), drop n (drop 6 kept)) = some-of_front kept (take n (drop 6 kept), drop n (drop 6 kept)) (record { count = n; header = header; room = whole; is = refl }) in cc)
-    ]
-
--- the packet that a read makes whole ends in what was read
-pub rest-shorter : (kept octets payload rest : List ℕ) → IsUnfinished kept → 0 < length octets → first_packet (kept ++ octets) ≡ Some (payload, rest) → length rest < length octets
-rest-shorter kept octets payload rest unfinished some front =
-    let f = front-of_some (kept ++ octets) rest payload front in
-    let room = f.room in
-    let left : rest ≡ drop f.count (drop 6 (kept ++ octets)) = ap (λ (t : List ℕ × List ℕ). t.1) f.is in
-    elim (cases_lt (length kept) 6) [
-      | inl short ↦ rw left (omega (arith, length-drop f.count (drop 6 (kept ++ octets)), length-drop 6 (kept ++ octets), length-append kept octets))
-      | inr six ↦ grown_by kept octets payload rest f.count (rw (take-append-le 6 kept octets six) at f.header) six unfinished.no_packet front
-    ]
-
 -- a read that makes a packet whole leaves few octets behind it
 pub few-kept : (kept octets all payload rest : List ℕ) → IsUnfinished kept → 0 < length octets → length octets ≤ 4096 → all ≡ kept ++ octets → first_packet all ≡ Some (payload, rest) → length rest ≤ 4095
 few-kept kept octets all payload rest unfinished some small is front =
-    let less = rest-shorter kept octets payload rest unfinished some (rw is at front) in omega arith
+    let less = first_packet-completed kept octets payload rest unfinished.no_packet (rw is at front) in omega arith
 
 rest-length : (octets : List ℕ) (front : Option (List ℕ × List ℕ)) → first_packet octets ≡ front → IsSome front → length (rest_of octets front) < length octets
 rest-length octets None e is = absurd (let h : false ≡ true = is in cc)
