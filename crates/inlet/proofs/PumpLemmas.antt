@@ -1,16 +1,12 @@
 -- Reads of one call, one after another, and what they leave in the decoder.
-use Rattle.std.proofs.Common.{◌≡◌, ◌≢◌, ℕ, ◌+◌, ◌<◌, ◌≤◌, Bool, true, false, List, [], ◌∷◌, ◌++◌, length, take, drop, inl, inr, refl, sym, ap, subst, ◌∙◌, arith, append_assoc, append-nil, length-append, length-take, length-drop}
-use Rattle.std.specs.Prelude.{◌⊎◌, Option, Some, None, IsSome, Ok, nat_le, if◌then◌else◌}
-use Rattle.std.proofs.lemmas.Bool.{cases_lt}
-use Rattle.std.proofs.lemmas.List.{take-append-drop, take-append-le}
+use Rattle.std.proofs.Common.{◌≡◌, ℕ, ◌+◌, ◌<◌, ◌≤◌, Bool, true, false, List, [], ◌++◌, length, take, drop, refl, sym, ap, subst, ◌∙◌, arith, append_assoc, append-nil, length-append}
+use Rattle.std.specs.Prelude.{Option, Some, None, IsSome, Ok}
+use Rattle.std.proofs.lemmas.List.{take-append-drop}
 use Rattle.outside_traits.specs.Source.{Reads}
 use Rattle.outside_traits.specs.Told.{BothTold}
-use Rattle.packet_framing.specs.Packets.{first_packet, after_first, rest_of, header_value, payload_of, IsBad, IsUnfinished}
-use Rattle.packet_framing.proofs.PacketLemmas.{first_packet-completed, shorter, unfinished-length, first_packet-bad}
-use Rattle.inlet.specs.Messages.{Takes}
+use Rattle.packet_framing.specs.Packets.{first_packet, after_first, rest_of, IsUnfinished}
+use Rattle.packet_framing.proofs.PacketLemmas.{first_packet-completed, shorter}
 use Rattle.inlet.specs.Pump.{Answers, Pumps}
-use Rattle.inlet.specs.Reads.{Feeds}
-use Rattle.inlet.specs.declared.pumping.Fed.{Fed}
 use Rattle.inlet.specs.declared.pumping.Pumped.{Pumped}
 
 -- ---- what is left of a source

@@ -1,7 +1,7 @@
 -- What one call of `pump` does to a stream.
-use Rattle.std.specs.Prelude.{◌≡◌, ◌≢◌, ℕ, ◌+◌, ◌<◌, Bool, true, List, [], ◌++◌, length, Option, Some}
+use Rattle.std.specs.Prelude.{◌≡◌, ◌≢◌, ℕ, ◌+◌, ◌<◌, Bool, true, List, [], ◌++◌, length, Option}
 use Rattle.outside_traits.specs.Told.{BothTold}
-use Rattle.packet_framing.specs.Packets.{first_packet, IsBad, IsUnfinished}
+use Rattle.packet_framing.specs.Packets.{IsBad, IsUnfinished}
 use Rattle.inlet.specs.Messages.{Takes}
 use Rattle.inlet.specs.declared.pumping.Pumped.{Pumped}
 use Rattle.inlet.specs.declared.pumping.Pumped.TheVariants.{Message, End, BadHeader, Truncated, ReadFault, InputLimit, NoMemory}

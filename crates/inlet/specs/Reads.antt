@@ -1,5 +1,5 @@
 -- What a call takes of the octets that are kept, and what a read adds to them.
-use Rattle.std.specs.Prelude.{◌≡◌, ℕ, ◌+◌, ◌<◌, ◌≤◌, List, [], ◌++◌, length, Option, Some, IsSome}
+use Rattle.std.specs.Prelude.{◌≡◌, ℕ, ◌+◌, ◌<◌, ◌≤◌, List, [], ◌++◌, length, Option, IsSome}
 use Rattle.outside_traits.specs.Told.{BothTold}
 use Rattle.packet_framing.specs.Packets.{first_packet, after_first, IsBad, IsUnfinished}
 use Rattle.inlet.specs.Messages.{Takes}
