@@ -1,5 +1,5 @@
 use crate::{Pumped, message_of, pump};
-use lisp_data::{NoMemory, Rows, Sexp, Text};
+use lisp_data::{NoMemory, Rows, Text};
 use outside_traits::MemSource;
 use packet_framing::{Decoder, frame};
 use rpc_messages::{FromEmacs, ThreadName};
@@ -73,36 +73,8 @@ fn what_is_no_message_says_why(rt: HostRuntime) -> Result<(), Fail> {
 }
 
 #[test]
-fn payloads_give_their_messages(rt: HostRuntime) -> Result<(), Fail> {
+fn a_payload_gives_its_message(rt: HostRuntime) -> Result<(), Fail> {
     let alloc = rt.alloc();
-    let request = message_of(
-        alloc,
-        b"(:emacs-rex (swank:connection-info) \"COMMON-LISP-USER\" 99 5)",
-    )?;
-    let FromEmacs::Rex {
-        package,
-        thread,
-        id,
-        ..
-    } = request
-    else {
-        return Err(Fail::from("no request"));
-    };
-    assert!(rt; package.is_some_and(|p| p.as_str() == "COMMON-LISP-USER"));
-    assert_eq!(rt; thread, ThreadName::Id(99));
-    assert_eq!(rt; id, 5);
-    let request = message_of(alloc, b"(:EMACS-REX nil nil :repl-thread -1 and more)")?;
-    assert!(rt;
-        matches!(
-            &request,
-            FromEmacs::Rex {
-                package: None,
-                thread: ThreadName::Repl,
-                id: -1,
-                ..
-            }
-        )
-    );
     let interrupt = message_of(alloc, b"(:emacs-interrupt 99)")?;
     assert!(rt;
         matches!(
@@ -112,19 +84,6 @@ fn payloads_give_their_messages(rt: HostRuntime) -> Result<(), Fail> {
             }
         )
     );
-    let value = message_of(alloc, b"(:emacs-return 1 2 t)")?;
-    assert!(rt;
-        matches!(
-            &value,
-            FromEmacs::Return {
-                thread: ThreadName::Id(1),
-                tag: 2,
-                value: Sexp::Sym(_)
-            }
-        )
-    );
-    let line = message_of(alloc, b"(:emacs-return-string 1 1 \"hi\n\")")?;
-    assert!(rt; matches!(&line, FromEmacs::ReturnString { tag: 1, .. }));
     Ok(())
 }
 
