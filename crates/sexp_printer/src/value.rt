@@ -7,7 +7,7 @@ use lisp_types::name_of;
 use std::alloc::Global;
 
 /// Whether a symbol with this home prints by its name alone.
-fn is_bare(home: &str, current: &str) -> bool
+pub fn is_bare(home: &str, current: &str) -> bool
     ensures { result ≡ is_bare home.now current.now }
 {
     home == "COMMON-LISP" || home == current
