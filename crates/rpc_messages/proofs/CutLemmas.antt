@@ -1,5 +1,5 @@
 -- A text whose characters are taken one by one, and where it is cut.
-use Rattle.std.proofs.Common.{◌≡◌, ◌≢◌, ℕ, suc, ◌+◌, ◌<◌, ◌≤◌, Bool, true, false, List, [], ◌∷◌, ◌++◌, length, take, drop, codes, get_or, nat_lt, refl, sym, ap, ◌∙◌, arith, length-drop, add-one}
+use Rattle.std.proofs.Common.{◌≡◌, ℕ, suc, ◌+◌, ◌<◌, ◌≤◌, Bool, true, false, List, [], ◌∷◌, ◌++◌, length, take, drop, codes, get_or, nat_lt, refl, sym, ap, ◌∙◌, arith, length-drop, add-one}
 use Rattle.std.specs.Prelude.{encode_utf8, encode_utf8_all, if◌then◌else◌}
 use Rattle.std.specs.Str.{chars, IsUtf8}
 use Rattle.std.proofs.lemmas.Bool.{lt-ltb, ltb-true}

@@ -1,5 +1,5 @@
 -- The shapes of the messages that Emacs sends, after `dispatch-event` of SLIME's `swank.lisp`.
-use Rattle.std.specs.Prelude.{◌≡◌, ℕ, ℤ, pos, Bool, true, false, if◌then◌else◌, List, [], ◌∷◌, codes, Option, Some, None, IsSome, Result, Ok, Err}
+use Rattle.std.specs.Prelude.{◌≡◌, ℕ, ℤ, pos, Bool, false, if◌then◌else◌, List, [], ◌∷◌, codes, Option, Some, None, IsSome, Result, Ok, Err}
 use Rattle.std.specs.Str.{str_eq_ignore_ascii_case}
 use Rattle.lisp_data.specs.declared.sexp.Sexp.{Sexp, out-Sexp}
 use Rattle.lisp_data.specs.declared.sexp.Sexp.TheOpen.{Sexp-F}

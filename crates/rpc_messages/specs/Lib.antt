@@ -1,4 +1,5 @@
 pub mod Cut
 pub mod Incoming
 pub mod Outgoing
+pub mod Plain
 pub mod Waiting

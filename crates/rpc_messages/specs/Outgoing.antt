@@ -1,5 +1,5 @@
 -- The forms of the messages to Emacs, after `slime-dispatch-event` of SLIME's `slime.el`. Tokens are in upper case, as they are read.
-use Rattle.std.specs.Prelude.{ℕ, ℤ, pos, ◌<◌, ◌^◌, Bool, true, false, List, [], ◌∷◌, ◌++◌, map, codes, All}
+use Rattle.std.specs.Prelude.{ℕ, pos, ◌<◌, ◌^◌, Bool, true, false, List, [], ◌∷◌, map, codes, All}
 use Rattle.lisp_data.specs.declared.sexp.Sexp.{Sexp}
 use Rattle.lisp_data.specs.declared.sexp.Sexp.TheVariants as form
 use Rattle.rpc_messages.specs.declared.to_emacs.FrameLine.{FrameLine}

@@ -1,7 +1,11 @@
-ghost use Rattle.std.specs.Prelude.{◌≡◌, ◌^◌, ◌<◌, [], ◌∷◌, All, codes, IfOk, map};
+ghost use mir.Syntax.{w64};
+ghost use Rattle.std.specs.Prelude.{◌≡◌, ◌^◌, ◌<◌, [], ◌∷◌, All, codes, FitsSigned, IfOk, OnOk, map};
 ghost use Rattle.lisp_data.specs.declared.sexp.Sexp.TheVariants as form;
 ghost use Rattle.rpc_messages.specs.Outgoing as outgoing;
 ghost use Rattle.rpc_messages.specs.Outgoing.{form_of, HasSmallNumbers};
+ghost use Rattle.rpc_messages.specs.Plain.{ReturnsPlain, HasTexts, HasText, IsSound};
+ghost use Rattle.sexp_printer.specs.Plain.{IsPlain};
+ghost use Rattle.sexp_reader.specs.Grammar.{max_open};
 
 use lisp_data::{NoMemory, Rows, Sexp, Text};
 use std::alloc::Global;
@@ -105,14 +109,15 @@ fn symbol(alloc: Global, name: &str) -> Result<Sexp, NoMemory>
     Ok(Sexp::Sym(Text::of(alloc, name)?))
 }
 
-fn string(alloc: Global, text: &Text) -> Result<Sexp, NoMemory>
+fn string(alloc: Global, text: &str) -> Result<Sexp, NoMemory>
     ensures { IfOk result (λ x. x ≡ form.Str text.now) }
 {
-    Ok(Sexp::Str(text.copy(alloc)?))
+    Ok(Sexp::Str(Text::of(alloc, text)?))
 }
 
 fn integer(n: &i64) -> Sexp
-    ensures { result ≡ form.Int n.now }
+    ensures form { result ≡ form.Int n.now }
+    ensures fits { FitsSigned w64 n.now }
 {
     Sexp::Int(*n)
 }
@@ -171,7 +176,7 @@ fn result_form(alloc: Global, how: &Returned) -> Result<Sexp, NoMemory>
 }
 
 /// `(HEAD FIRST SECOND)`, of two texts.
-fn of_texts(alloc: Global, head: &str, first: &Text, second: &Text) -> Result<Sexp, NoMemory>
+fn of_texts(alloc: Global, head: &str, first: &str, second: &str) -> Result<Sexp, NoMemory>
     ensures { IfOk result (λ x. x ≡ outgoing.message head.now (form.Str first.now ∷ form.Str second.now ∷ [])) }
 {
     let items = triple(
@@ -209,7 +214,7 @@ fn of_thread_and(
     Ok(Sexp::List(items))
 }
 
-fn write_string(alloc: Global, text: &Text, repl_result: bool) -> Result<Sexp, NoMemory>
+fn write_string(alloc: Global, text: &str, repl_result: bool) -> Result<Sexp, NoMemory>
     ensures { IfOk result (λ x. x ≡ outgoing.write_string_form text.now repl_result) }
 {
     let mut items = pair(alloc, symbol(alloc, ":WRITE-STRING")?, string(alloc, text)?)?;
@@ -220,26 +225,28 @@ fn write_string(alloc: Global, text: &Text, repl_result: bool) -> Result<Sexp, N
 }
 
 fn restart_line(alloc: Global, line: &RestartLine) -> Result<Sexp, NoMemory>
-    ensures { IfOk result (λ x. x ≡ outgoing.restart_form line.now) }
+    ensures form { IfOk result (λ x. x ≡ outgoing.restart_form line.now) }
+    ensures texts { HasTexts line.now }
 {
-    let items = pair(
-        alloc,
-        string(alloc, &line.name)?,
-        string(alloc, &line.text)?,
-    )?;
+    let name = line.name.as_str();
+    let text = line.text.as_str();
+    let items = pair(alloc, string(alloc, name)?, string(alloc, text)?)?;
     Ok(Sexp::List(items))
 }
 
 fn frame_line(alloc: Global, line: &FrameLine) -> Result<Sexp, NoMemory>
     requires { line.now.number < 2 ^ 63 }
-    ensures { IfOk result (λ x. x ≡ outgoing.frame_form line.now) }
+    ensures form { IfOk result (λ x. x ≡ outgoing.frame_form line.now) }
+    ensures text { HasText line.now }
 {
-    let items = pair(alloc, number(line.number), string(alloc, &line.text)?)?;
+    let text = line.text.as_str();
+    let items = pair(alloc, number(line.number), string(alloc, text)?)?;
     Ok(Sexp::List(items))
 }
 
 fn restart_lines(alloc: Global, lines: &[RestartLine]) -> Result<Sexp, NoMemory>
-    ensures { IfOk result (λ x. x ≡ form.List (map outgoing.restart_form lines.now)) }
+    ensures form { IfOk result (λ x. x ≡ form.List (map outgoing.restart_form lines.now)) }
+    ensures texts { OnOk result (All HasTexts lines.now) }
 {
     let mut items = Rows::new(alloc);
     for line in lines {
@@ -250,7 +257,8 @@ fn restart_lines(alloc: Global, lines: &[RestartLine]) -> Result<Sexp, NoMemory>
 
 fn frame_lines(alloc: Global, lines: &[FrameLine]) -> Result<Sexp, NoMemory>
     requires { All (λ line. line.number < 2 ^ 63) lines.now }
-    ensures { IfOk result (λ x. x ≡ form.List (map outgoing.frame_form lines.now)) }
+    ensures form { IfOk result (λ x. x ≡ form.List (map outgoing.frame_form lines.now)) }
+    ensures texts { OnOk result (All HasText lines.now) }
 {
     let mut items = Rows::new(alloc);
     for line in lines {
@@ -260,16 +268,17 @@ fn frame_lines(alloc: Global, lines: &[FrameLine]) -> Result<Sexp, NoMemory>
 }
 
 fn ids(alloc: Global, ids: &[i64]) -> Result<Sexp, NoMemory>
-    ensures { IfOk result (λ x. x ≡ form.List (map form.Int ids.now)) }
+    ensures form { IfOk result (λ x. x ≡ form.List (map form.Int ids.now)) }
+    ensures fits { OnOk result (All (FitsSigned w64) ids.now) }
 {
     let mut items = Rows::new(alloc);
     for id in ids {
-        items.push(Sexp::Int(*id))?;
+        items.push(integer(id))?;
     }
     Ok(Sexp::List(items))
 }
 
-fn heading(alloc: Global, message: &Text, type_line: &Text) -> Result<Sexp, NoMemory>
+fn heading(alloc: Global, message: &str, type_line: &str) -> Result<Sexp, NoMemory>
     ensures { IfOk result (λ x. x ≡ outgoing.heading_form message.now type_line.now) }
 {
     let items = triple(
@@ -294,12 +303,7 @@ fn return_message(alloc: Global, id: i64, how: &Returned) -> Result<Sexp, NoMemo
 }
 
 /// `(HEAD NUMBER TEXT)`
-fn of_number_and_text(
-    alloc: Global,
-    head: &str,
-    number: Sexp,
-    text: &Text,
-) -> Result<Sexp, NoMemory>
+fn of_number_and_text(alloc: Global, head: &str, number: Sexp, text: &str) -> Result<Sexp, NoMemory>
     ensures { IfOk result (λ x. x ≡ outgoing.message head.now (number ∷ form.Str text.now ∷ [])) }
 {
     let items = triple(alloc, symbol(alloc, head)?, number, string(alloc, text)?)?;
@@ -315,7 +319,7 @@ fn of_question(alloc: Global, head: &str, thread: u64, tag: u64) -> Result<Sexp,
     Ok(Sexp::List(of_thread(alloc, head, thread, tag)?))
 }
 
-fn yes_no(alloc: Global, thread: u64, tag: u64, text: &Text) -> Result<Sexp, NoMemory>
+fn yes_no(alloc: Global, thread: u64, tag: u64, text: &str) -> Result<Sexp, NoMemory>
     requires thread { thread < 2 ^ 63 }
     requires tag { tag < 2 ^ 63 }
     ensures { IfOk result (λ x. x ≡ outgoing.message (codes ":Y-OR-N-P") (outgoing.number thread ∷ outgoing.number tag ∷ form.Str text.now ∷ [])) }
@@ -355,22 +359,30 @@ fn debug(alloc: Global, thread: u64, level: u64, parts: LevelParts) -> Result<Se
     Ok(Sexp::List(items))
 }
 
-/// The form of a message. Tokens are in upper case, as the reader gives them.
-pub fn to_sexp(alloc: Global, m: &ToEmacs) -> Result<Sexp, NoMemory>
+fn made(alloc: Global, m: &ToEmacs) -> Result<Sexp, NoMemory>
     requires { HasSmallNumbers m.now }
-    ensures { IfOk result (λ x. x ≡ form_of m.now) }
+    ensures form { IfOk result (λ x. x ≡ form_of m.now) }
+    ensures sound { OnOk result (IsSound m.now) }
 {
     match m {
         ToEmacs::Return { id, result: how } => return_message(alloc, *id, how),
         ToEmacs::InvalidRpc { id, text } => {
-            of_number_and_text(alloc, ":INVALID-RPC", integer(id), text)
+            of_number_and_text(alloc, ":INVALID-RPC", integer(id), text.as_str())
         }
-        ToEmacs::ReaderError { packet, text } => of_texts(alloc, ":READER-ERROR", packet, text),
-        ToEmacs::WriteString { text, repl_result } => write_string(alloc, text, *repl_result),
+        ToEmacs::ReaderError { packet, text } => {
+            of_texts(alloc, ":READER-ERROR", packet.as_str(), text.as_str())
+        }
+        ToEmacs::WriteString { text, repl_result } => write_string(
+            alloc,
+            text.as_str(),
+            *repl_result,
+        ),
         ToEmacs::ReadString { thread, tag } => of_question(alloc, ":READ-STRING", *thread, *tag),
         ToEmacs::ReadAborted { thread, tag } => of_question(alloc, ":READ-ABORTED", *thread, *tag),
-        ToEmacs::YesNo { thread, tag, text } => yes_no(alloc, *thread, *tag, text),
-        ToEmacs::NewPackage { name, prompt } => of_texts(alloc, ":NEW-PACKAGE", name, prompt),
+        ToEmacs::YesNo { thread, tag, text } => yes_no(alloc, *thread, *tag, text.as_str()),
+        ToEmacs::NewPackage { name, prompt } => {
+            of_texts(alloc, ":NEW-PACKAGE", name.as_str(), prompt.as_str())
+        }
         ToEmacs::Debug {
             thread,
             level,
@@ -381,7 +393,7 @@ pub fn to_sexp(alloc: Global, m: &ToEmacs) -> Result<Sexp, NoMemory>
             continuations,
         } => {
             let parts = LevelParts {
-                heading: heading(alloc, message, type_line)?,
+                heading: heading(alloc, message.as_str(), type_line.as_str())?,
                 restarts: restart_lines(alloc, restarts.as_slice())?,
                 frames: frame_lines(alloc, frames.as_slice())?,
                 continuations: ids(alloc, continuations.as_slice())?,
@@ -396,7 +408,17 @@ pub fn to_sexp(alloc: Global, m: &ToEmacs) -> Result<Sexp, NoMemory>
         ),
         ToEmacs::DebugReturn { thread, level } => of_level(alloc, ":DEBUG-RETURN", *thread, *level),
         ToEmacs::DebugCondition { thread, text } => {
-            of_number_and_text(alloc, ":DEBUG-CONDITION", number(*thread), text)
+            of_number_and_text(alloc, ":DEBUG-CONDITION", number(*thread), text.as_str())
         }
     }
+}
+
+/// The form of a message. Tokens are in upper case, as the reader gives them. The form is plain, so that its wire text is read
+/// back as this form.
+pub fn to_sexp(alloc: Global, m: &ToEmacs) -> Result<Sexp, NoMemory>
+    requires { HasSmallNumbers m.now }
+    ensures form { IfOk result (λ x. x ≡ form_of m.now) }
+    ensures plain { ReturnsPlain m.now → IfOk result (λ x. IsPlain max_open x) }
+{
+    made(alloc, m)
 }

@@ -1,6 +1,6 @@
 use Rattle.std.proofs.Common.{arith, ◌∙◌}
 use Rattle.std.proofs.lemmas.List.{nil_from_length}
-use Rattle.rpc_messages.proofs.CutLemmas.{Shows, Shows-next, cut-long, cut-short}
+use Rattle.rpc_messages.proofs.CutLemmas.{Shows-next, cut-long, cut-short}
 use Rattle.rpc_messages.proofs.cut_text.cut.Goals as goal
 
 pub returns-then-count-ge-MAX_SHOWN : goal.returns-then-count-ge-MAX_SHOWN

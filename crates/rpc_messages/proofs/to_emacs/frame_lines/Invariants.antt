@@ -1,6 +1,8 @@
 use Rattle.std.proofs.Common.{◌≡◌, map, take}
+use Rattle.std.specs.Prelude.{All}
 use Rattle.rpc_messages.specs.Outgoing as outgoing
+use Rattle.rpc_messages.specs.Plain.{HasText}
 use Rattle.rpc_messages.proofs.to_emacs.frame_lines.Given as goal
 
 abbrev pub invariant-loop-line : goal.invariant-loop-line
-invariant-loop-line l = l.items ≡ map outgoing.frame_form (take l.line-index l.lines)
+invariant-loop-line l = (l.items ≡ map outgoing.frame_form (take l.line-index l.lines)) × All HasText (take l.line-index l.lines)
