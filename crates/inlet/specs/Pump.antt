@@ -1,5 +1,5 @@
 -- What one call of `pump` does to a stream.
-use Rattle.std.specs.Prelude.{◌≡◌, ◌≢◌, ℕ, ◌+◌, ◌<◌, Bool, true, List, [], ◌++◌, length, Option}
+use Rattle.std.specs.Prelude.{◌≡◌, ◌≢◌, ℕ, ◌+◌, ◌<◌, Bool, true, false, List, [], ◌++◌, length, Option}
 use Rattle.outside_traits.specs.Told.{BothTold}
 use Rattle.packet_framing.specs.Packets.{IsBad, IsUnfinished}
 use Rattle.inlet.specs.Messages.{Takes}
@@ -28,6 +28,12 @@ pub record Pumps (left0 left1 : Option (List ℕ)) (kept0 kept1 : List ℕ) (tak
   pub source : BothTold left0 left1 (λ old new. old ≡ octets ++ new)
   pub count : taken1 ≡ taken0 + length octets
   pub answer : Answers (kept0 ++ octets) kept1 taken1 ended result
+
+-- whether the answer says that the end of input was met
+abbrev pub met_end : Pumped → Bool
+met_end End = true
+met_end Truncated = true
+met_end _ = false
 
 -- the answer is a message
 abbrev pub IsMessage : Pumped → Type 0

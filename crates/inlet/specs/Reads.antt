@@ -1,5 +1,5 @@
 -- What a call takes of the octets that are kept, and what a read adds to them.
-use Rattle.std.specs.Prelude.{◌≡◌, ℕ, ◌+◌, ◌<◌, ◌≤◌, List, [], ◌++◌, length, Option, IsSome}
+use Rattle.std.specs.Prelude.{◌≡◌, ℕ, ◌+◌, ◌<◌, ◌≤◌, Bool, true, false, List, [], ◌++◌, length, Option, IsSome}
 use Rattle.outside_traits.specs.Told.{BothTold}
 use Rattle.packet_framing.specs.Packets.{first_packet, after_first, IsBad, IsUnfinished}
 use Rattle.inlet.specs.Messages.{Takes}
@@ -21,6 +21,11 @@ Keeps old new octets fed.More = (new ≡ old ++ octets) × (0 < length octets)
 Keeps old new octets fed.End = (new ≡ old) × (octets ≡ [])
 Keeps old new octets fed.Fault = (new ≡ old) × (octets ≡ [])
 Keeps old new octets fed.NoMemory = new ≡ old
+
+-- whether the read met the end of input
+abbrev pub is_end : Fed → Bool
+is_end fed.End = true
+is_end _ = false
 
 -- a read of at most 4,096 octets, which the source no longer has and which are counted
 pub record Feeds (left0 left1 : Option (List ℕ)) (kept0 kept1 : List ℕ) (taken0 taken1 : ℕ) (result : Fed) : Type 0 where

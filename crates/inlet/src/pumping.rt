@@ -1,6 +1,6 @@
-ghost use Rattle.std.specs.Prelude.{◌≡◌, ◌+◌, ◌<◌, ◌≤◌, ◌++◌, ◌⊎◌, None, length, true};
-ghost use Rattle.inlet.specs.Pump.{IsMessage, Pumps};
-ghost use Rattle.inlet.specs.Reads.{AnswersKept, Feeds};
+ghost use Rattle.std.specs.Prelude.{◌≡◌, ◌+◌, ◌<◌, ◌≤◌, ◌++◌, ◌⊎◌, None, length, false};
+ghost use Rattle.inlet.specs.Pump.{met_end, IsMessage, Pumps};
+ghost use Rattle.inlet.specs.Reads.{is_end, AnswersKept, Feeds};
 ghost use Rattle.outside_traits.specs.Faults.{Rose};
 ghost use Rattle.packet_framing.specs.Packets.{first_packet, IsUnfinished};
 
@@ -71,7 +71,7 @@ fn take_message(alloc: Global, decoder: &mut Decoder) -> Held
 fn feed<S: Source>(source: &mut S, decoder: &mut Decoder, taken: &mut u64) -> Fed
     requires { taken.old < INPUT_LIMIT }
     ensures feeds { Feeds (S.left source.old) (S.left source.new) decoder.old decoder.new taken.old taken.new result }
-    ensures ended { result ≡ Fed.End → S.ended source.new ≡ true }
+    ensures ended { S.ended source.new ≡ is_end result }
     ensures later { S.faults source.old ≤ S.faults source.new }
     ensures fault { result ≡ Fed.Fault → Rose (S.faults source.old) (S.faults source.new) }
     ensures within { taken.new ≤ INPUT_LIMIT }
@@ -105,6 +105,8 @@ fn read_on<S: Source>(
     ensures fault { result ≡ Pumped.ReadFault → Rose (S.faults source.old) (S.faults source.new) }
     ensures within { taken.new ≤ INPUT_LIMIT }
     ensures full { taken.old ≡ INPUT_LIMIT → source.new ≡ source.old }
+    ensures limit { taken.old ≡ INPUT_LIMIT → result ≡ Pumped.InputLimit }
+    ensures ended { S.ended source.old ≡ false → S.ended source.new ≡ met_end result }
     ensures few { IsMessage result → length decoder.new ≤ 4095 }
     ensures bounded { length decoder.new ≤ 16781316 }
 {
@@ -150,6 +152,10 @@ pub fn pump<S: Source>(
     ensures taken { (¬ IsUnfinished decoder.old) → taken.new ≡ taken.old }
     ensures within { taken.new ≤ INPUT_LIMIT }
     ensures full { taken.old ≡ INPUT_LIMIT → source.new ≡ source.old }
+    ensures limit { IsUnfinished decoder.old → taken.old ≡ INPUT_LIMIT → result ≡ Pumped.InputLimit }
+
+    // The end of input was met exactly where the answer says so.
+    ensures ended { S.ended source.old ≡ false → S.ended source.new ≡ met_end result }
 
     // Few octets are kept behind a message, and never more than a packet and a read can leave.
     ensures few { ((length decoder.old ≤ 4095) ⊎ (first_packet decoder.old ≡ None)) → IsMessage result → length decoder.new ≤ 4095 }

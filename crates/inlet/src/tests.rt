@@ -84,6 +84,20 @@ fn a_payload_gives_its_message(rt: HostRuntime) -> Result<(), Fail> {
             }
         )
     );
+    let request = message_of(
+        alloc,
+        b"(:emacs-rex (swank:connection-info) \"CL-USER\" 99 5)",
+    )?;
+    assert!(rt;
+        matches!(
+            &request,
+            FromEmacs::Rex {
+                thread: ThreadName::Id(99),
+                id: 5,
+                ..
+            }
+        )
+    );
     Ok(())
 }
 
