@@ -1,0 +1,18 @@
+//! Syntax trees and the forms that they stand for.
+//!
+//! [`unparse`] gives the form of a tree: what the crates above use is that the form is `unparsed` of the tree. The form of each row,
+//! one a variant of [`Ast`], stands in `specs/Rows.antt`; the form of a whole tree in `specs/Trees.antt`.
+#![tactic(auto)]
+
+mod lead;
+mod operator;
+mod symbols;
+#[cfg(test)]
+mod tests;
+mod to_form;
+
+pub use syntax_trees::{
+    Assignment, Ast, Binding, Clause, Designator, Handler, HandlerClause, Init, Name, Parameters,
+    RestartClause,
+};
+pub use to_form::unparse;
