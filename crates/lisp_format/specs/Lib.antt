@@ -1,0 +1,4 @@
+pub mod Directives
+pub mod Formatted
+pub mod Hexadecimal
+pub mod Passes
