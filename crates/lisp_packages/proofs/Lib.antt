@@ -1,7 +1,12 @@
+pub mod ExternalLemmas
 pub mod LoopLemmas
 pub mod MadeLemmas
+pub mod MakingLemmas
+pub mod NamedLemmas
 pub mod OwnLemmas
 pub mod PackagesLemmas
 pub mod SetLemmas
+pub mod TextLemmas
 pub mod TokenLemmas
+pub mod UndoneLemmas
 pub mod ValueLemmas

@@ -1,5 +1,5 @@
 -- The list of the symbols that are present in one package.
-use Rattle.std.specs.Prelude.{ℕ, Bool, List, [], ◌∷◌, ◌++◌, Option, is_some, find, if◌then◌else◌}
+use Rattle.std.specs.Prelude.{ℕ, Bool, true, List, [], ◌∷◌, ◌++◌, Option, is_some, find, if◌then◌else◌}
 use Rattle.std.specs.Str.{bytes_eq}
 use Rattle.lisp_packages.specs.declared.entry.Entry.{Entry}
 
@@ -19,3 +19,8 @@ put_entry (first ∷ rest) entry = if has_name entry.symbol.name first then entr
 -- the list with this entry at the end, where its name is new
 abbrev pub added : List Entry → Entry → List Entry
 added own entry = if is_some (entry_of own entry.symbol.name) then own else own ++ entry ∷ []
+
+-- the list with the symbol of this name external
+abbrev pub with_external : List Entry → List ℕ → List Entry
+with_external [] name = []
+with_external (first ∷ rest) name = if has_name name first then (record first { external = true }) ∷ rest else first ∷ with_external rest name

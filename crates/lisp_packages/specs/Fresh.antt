@@ -1,5 +1,6 @@
 -- The packages of a fresh image.
-use Rattle.std.specs.Prelude.{ℕ, true, List, [], ◌∷◌, fold, codes}
+use Rattle.std.specs.Prelude.{◌≡◌, refl, ℕ, true, List, [], ◌∷◌, map, fold, codes}
+use Rattle.lisp_packages.specs.declared.names.TheConstants as constant
 use Rattle.lisp_packages.specs.declared.entry.Entry.{Entry}
 use Rattle.lisp_packages.specs.declared.lisp_package.Package.{Package}
 use Rattle.lisp_packages.specs.Entries.{put_entry}
@@ -20,3 +21,11 @@ fresh_packages names =
     ∷ (record { name = codes "COMMON-LISP-USER"; nicknames = codes "CL-USER" ∷ []; uses = 0 ∷ []; own = [] })
     ∷ (record { name = keyword; nicknames = []; uses = []; own = [] })
     ∷ []
+
+-- the packages of a fresh image
+unfoldable pub standard_packages : List Package
+standard_packages = fresh_packages (map (λ name. name.now) constant.STANDARD_NAMES)
+
+pub standard_packages-is : standard_packages ≡ fresh_packages (map (λ name. name.now) constant.STANDARD_NAMES)
+unfolding standard_packages
+standard_packages-is = refl

@@ -1,8 +1,10 @@
 pub mod Entries
 pub mod Keyed
 pub mod Packages
+pub mod Named
 pub mod Naming
 pub mod Made
 pub mod Changes
+pub mod Making
 pub mod Causes
 pub mod Fresh

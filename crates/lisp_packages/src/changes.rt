@@ -22,7 +22,7 @@ impl Packages {
     }
 
     /// Whether the symbol clashes in one of the packages that use the one at a place.
-    fn clashes_for_users(&self, place: usize, symbol: &Symbol) -> bool
+    pub(crate) fn clashes_for_users(&self, place: usize, symbol: &Symbol) -> bool
         ensures { result ≡ clashes_for_users self.now place symbol.now }
     {
         for user in 0..self.count() {
@@ -108,18 +108,19 @@ impl Packages {
 
     /// Whether the n-th symbol of the package at the second place is external and clashes in the one at the first.
     fn clashes_for_entry(&self, place: usize, used: usize, n: usize) -> bool
-        requires { used < length self.now }
         ensures { result ≡ option_map_or (entry_clashes self.now place) (slice_get (own_at self.now used) n) false }
     {
-        match self.get(used).own.at(n) {
+        let Some(package) = self.at(used) else {
+            return false;
+        };
+        match package.own.at(n) {
             Some(entry) => entry.external && self.clashes(place, &entry.symbol),
             None => false,
         }
     }
 
     /// Whether an external symbol of the package at the second place clashes in the one at the first.
-    fn clashes_for_use(&self, place: usize, used: usize) -> bool
-        requires { used < length self.now }
+    pub(crate) fn clashes_for_use(&self, place: usize, used: usize) -> bool
         ensures { result ≡ list_any (entry_clashes self.now place) (own_at self.now used) }
     {
         for n in 0..self.own_len(used) {
@@ -131,11 +132,13 @@ impl Packages {
     }
 
     /// How many symbols are present in the package at a place.
-    fn own_len(&self, place: usize) -> usize
-        requires { place < length self.now }
+    pub(crate) fn own_len(&self, place: usize) -> usize
         ensures { result ≡ length (own_at self.now place) }
     {
-        self.get(place).own.len()
+        match self.at(place) {
+            Some(package) => package.own.len(),
+            None => 0,
+        }
     }
 
     /// Lets the package use another, last in order of use. One that it uses already changes nothing.

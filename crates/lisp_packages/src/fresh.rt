@@ -1,5 +1,5 @@
 ghost use Rattle.std.specs.Prelude.{◌≡◌, ◌++◌, [], ◌∷◌, map, IfOk, OnOk, OnErr};
-ghost use Rattle.lisp_packages.specs.Fresh.{standard_entry, standard_own, fresh_packages};
+ghost use Rattle.lisp_packages.specs.Fresh.{standard_entry, standard_own, standard_packages};
 
 use crate::names::STANDARD_NAMES;
 use crate::naming::{COMMON_LISP, KEYWORD};
@@ -36,7 +36,7 @@ fn standard_own(alloc: Global, names: &[&str]) -> Result<Own, NoMemory>
 impl Packages {
     /// The packages of a fresh image: COMMON-LISP with all its names, COMMON-LISP-USER and KEYWORD.
     pub fn new(alloc: Global) -> Result<Packages, NoMemory>
-        ensures { IfOk result (λ packages. packages ≡ fresh_packages (map (λ name. name.now) STANDARD_NAMES)) }
+        ensures { IfOk result (λ packages. packages ≡ standard_packages) }
     {
         let mut packages = Packages::none(alloc);
         let mut nicknames = Rows::new(alloc);

@@ -3,15 +3,17 @@
 //!
 //! The layer above uses that [`Packages::resolve`], [`Packages::value_of`] and [`Packages::look`] give the named symbol or the
 //! refusal (`named` and `valued` in `specs/Naming.antt`). What packages are stands in `specs/Packages.antt`, the changes in
-//! `specs/Changes.antt`, the refusals in `specs/Causes.antt`, the fresh image in `specs/Fresh.antt`.
+//! `specs/Changes.antt` and `specs/Making.antt`, the refusals in `specs/Causes.antt`, the fresh image in `specs/Fresh.antt`.
 #![tactic(auto)]
 
 mod changes;
 mod entry;
 mod fault;
 mod fresh;
+mod index;
 mod lisp_package;
 mod made;
+mod making;
 mod names;
 mod naming;
 mod own;

@@ -1,6 +1,6 @@
 ghost use Rattle.std.specs.Prelude.{◌≡◌, ◌-◌, ◌↔◌, [], is_some, true, false, length, slice_get, take, IsTrue, IfOk, OnOk, OnErr};
 ghost use Rattle.std.specs.Option.{option_copied};
-ghost use Rattle.lisp_packages.specs.Entries.{entry_of, put_entry, added};
+ghost use Rattle.lisp_packages.specs.Entries.{entry_of, put_entry, added, with_external};
 
 use crate::Entry;
 use indexmap::IndexMap;
@@ -100,5 +100,22 @@ impl Own {
     {
         let keep = self.len().saturating_sub(1);
         self.map.truncate(keep);
+    }
+
+    /// Drops the entries from the n-th on.
+    pub(crate) fn truncate(&mut self, keep: usize)
+        ensures { self.new ≡ take keep self.old }
+    {
+        self.map.truncate(keep);
+    }
+
+    /// Makes the symbol of a name external, where one is present.
+    pub(crate) fn set_external(&mut self, name: &str)
+        ensures { self.new ≡ with_external self.old name.now }
+    {
+        if let Some(entry) = self.map.get_mut(name) {
+            entry.external = true;
+            return;
+        }
     }
 }

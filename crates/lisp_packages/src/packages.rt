@@ -1,10 +1,13 @@
-ghost use Rattle.std.specs.Prelude.{◌≡◌, ◌<◌, Some, IfSome, ◌++◌, [], ◌∷◌, Option, true, false, not, is_some, length, slice_get, option_map, IsTrue, IfOk, OnOk, OnErr};
+ghost use Rattle.std.specs.Prelude.{◌≡◌, ◌<◌, Some, IfSome, ◌++◌, ◌-◌, [], ◌∷◌, Option, true, false, not, is_some, length, take, slice_get, option_map, IsTrue, IfOk, OnOk, OnErr};
 ghost use Rattle.std.specs.Option.{option_copied, option_map_or};
-ghost use Rattle.lisp_packages.specs.Entries.{entry_of, put_entry, added};
+ghost use Rattle.lisp_packages.specs.Entries.{entry_of, put_entry, added, with_external};
+ghost use Rattle.lisp_packages.specs.Making.{cut};
 ghost use Rattle.lisp_packages.specs.Packages.{place_of, name_at, uses_at, own_at, external_at, inherited, accessible, with_own, with_uses};
 ghost use Rattle.lisp_packages.specs.Made.{shortened};
 
+use crate::index::{add_names, find_place};
 use crate::{Entry, Package};
+use indexmap::IndexMap;
 use lisp_data::{NoMemory, Rows, Symbol, Text};
 use std::alloc::Global;
 use std::marker::Model;
@@ -13,15 +16,20 @@ use std::marker::Model;
 #[derive(Debug, Drop)]
 pub struct Packages {
     list: Vec<Package>,
+    /// The places of their names and nicknames.
+    names: IndexMap<String, usize>,
 }
 
 impl Model for Packages {
     ghost use Rattle.std.specs.Prelude.{List};
+    ghost use Rattle.lisp_packages.specs.Named.{HasNames};
     ghost use Rattle.lisp_packages.specs.declared.lisp_package.Package.{Package};
 
     ghost Value = { List Package };
 
     ghost view = { λ p. p.list.items };
+
+    ghost invariant = { λ p. HasNames p.names p.list.items };
 }
 
 impl Packages {
@@ -30,6 +38,7 @@ impl Packages {
     {
         Packages {
             list: Vec::new(alloc),
+            names: IndexMap::new(alloc),
         }
     }
 
@@ -62,6 +71,8 @@ impl Packages {
         ensures ok { OnOk result (self.new ≡ self.old ++ «package» ∷ []) }
         ensures err { OnErr result (self.new ≡ self.old) }
     {
+        let place = self.list.len();
+        add_names(self.list.as_slice(), &mut self.names, &package, place)?;
         self.list.push(package)?;
         Ok(())
     }
@@ -71,7 +82,7 @@ impl Packages {
         ensures place { result ≡ place_of self.now text.now }
         ensures within { IfSome result (λ i. i < length self.now) }
     {
-        self.list.iter().position(|package| package.is_named(text))
+        find_place(self.list.as_slice(), &self.names, text)
     }
 
     /// The entry of a name among the symbols present in the package at a place.
@@ -152,5 +163,33 @@ impl Packages {
     {
         self.list[place].uses.push(used)?;
         Ok(())
+    }
+
+    /// Drops the package made last.
+    pub(crate) fn pop(&mut self)
+        ensures { self.new ≡ take (length self.old - 1) self.old }
+    {
+        let keep = self.list.len().saturating_sub(1);
+        self.list.truncate(keep);
+    }
+
+    /// Drops the uses and the symbols of the package at a place from these numbers on.
+    pub(crate) fn cut(&mut self, place: usize, uses: usize, own: usize)
+        ensures { self.new ≡ cut self.old place uses own }
+    {
+        if place < self.list.len() {
+            let package = &mut self.list[place];
+            package.uses.truncate(uses);
+            package.own.truncate(own);
+        }
+    }
+
+    /// Makes the symbol of a name that is present in the package at a place external.
+    pub(crate) fn set_external(&mut self, place: usize, name: &str)
+        ensures { self.new ≡ with_own self.old place (with_external (own_at self.old place) name.now) }
+    {
+        if place < self.list.len() {
+            self.list[place].own.set_external(name);
+        }
     }
 }
