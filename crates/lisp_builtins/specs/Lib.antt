@@ -1,0 +1,9 @@
+pub mod Answers
+pub mod Conditions
+pub mod Lists
+pub mod Names
+pub mod Numbers
+pub mod Outcome
+pub mod Signatures
+pub mod Texts
+pub mod Values
