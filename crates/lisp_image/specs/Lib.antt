@@ -1,0 +1,4 @@
+pub mod SymbolMap
+pub mod Places
+pub mod Image
+pub mod Lends
