@@ -1,0 +1,12 @@
+pub mod Term
+pub mod Label
+pub mod GoingIn
+pub mod Room
+pub mod Search
+pub mod Variables
+pub mod Targets
+pub mod Handlers
+pub mod Restarts
+pub mod Exit
+pub mod Levels
+pub mod Breaks
