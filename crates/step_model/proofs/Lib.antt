@@ -1,0 +1,16 @@
+pub mod MarkLemmas
+pub mod Paths
+pub mod BareLemmas
+pub mod FitLemmas
+pub mod TargetFits
+pub mod SearchFits
+pub mod PerformFits
+pub mod RowFits
+pub mod KeepsFacts
+pub mod KeepsOrder
+pub mod LocalLemmas
+pub mod StaleLemmas
+pub mod MachineFunctionLemmas
+pub mod RoomLemmas
+pub mod ExitRooms
+pub mod KeepsRoom

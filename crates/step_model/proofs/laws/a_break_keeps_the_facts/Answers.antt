@@ -1,0 +1,6 @@
+use Rattle.step_model.proofs.KeepsFacts.{break_keeps, marks-broken}
+use Rattle.step_model.proofs.KeepsRoom.{break_rooms}
+use Rattle.step_model.proofs.laws.a_break_keeps_the_facts.Goals as goal
+
+abbrev pub returns : goal.returns
+returns c = record { layers = λ d f h. break_keeps d f h; room = λ d f h. break_rooms d f h; same_marks = λ d f. marks-broken d f }

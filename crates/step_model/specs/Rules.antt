@@ -1,0 +1,82 @@
+-- What the table of steps takes from the layers beside it, as one record of functions: the functions that have one step, reading and
+-- formatting, and what a request's function answers. The laws hold of every such record.
+use Rattle.std.specs.Prelude.{ℕ, ℤ, Bool, List, Option, Result}
+use Rattle.lisp_data.specs.declared.sexp.Sexp.{Sexp}
+use Rattle.lisp_data.specs.declared.symbol.Symbol.{Symbol}
+use Rattle.lisp_data.specs.declared.value.Value.{Value}
+use Rattle.lisp_data.specs.declared.value.Condition.{Condition}
+use Rattle.lisp_packages.specs.declared.fault.NameFault.{NameFault}
+use Rattle.lisp_packages.specs.declared.lisp_package.Package.{Package}
+use Rattle.sexp_reader.specs.declared.placed.Placed.{Placed}
+use Rattle.syntax_trees.specs.declared.ast.Ast.{Ast}
+use Rattle.syntax_trees.specs.declared.ast.Designator.{Designator}
+use Rattle.term_model.specs.declared.focus.Origin.{Origin}
+use Rattle.term_model.specs.Term.{Context}
+use Rattle.step_model.specs.Image.{ImageState}
+
+-- what a request's function sees. `form` is the request's form, `current` the full name of the current package, `inspected` what is
+-- inspected and, behind it, the values kept before, and `threads` the numbers of the live threads
+pub record Asked : Type 0 where
+  pub form : Sexp
+  pub context : Context
+  pub current : List ℕ
+  pub image : ImageState
+  pub inspected : List Value
+  pub threads : List ℕ
+
+-- what it says is to be done
+pub data Command : Type 0 where
+  -- to reply this, with these values inspected
+  Answers : List Value → Sexp → Command
+  -- to set the global package first
+  AnswersIn : (global : Value) → Sexp → Command
+  Refuses : Condition → Command
+  -- to evaluate these forms, and to make the reply of the value and of what is kept
+  Evaluates : List Placed → Option Origin → (kept : Sexp) → Command
+  -- the same with the variables of a frame of the level
+  EvaluatesIn : (frame : ℤ) → List Placed → (kept : Sexp) → Command
+  -- the same, of a frame that is then to be left with the value
+  EvaluatesToReturn : (frame : ℤ) → List Placed → (kept : Sexp) → Command
+  -- to call again in a frame
+  CallsAgain : (frame : ℤ) → Command
+  -- to invoke a restart of a level, by its place
+  InvokesNth : (level place : ℤ) → Command
+  -- to invoke the first restart of this name of the current level
+  InvokesFirst : Symbol → Command
+  -- to invoke the ABORT of the top
+  InvokesTop : Command
+  -- to close the session
+  Closes : Command
+
+-- what is written to the user
+pub data Writing : Type 0 where
+  Output : List ℕ → (repl_result : Bool) → Writing
+  NewPackage : (name prompt : List ℕ) → Writing
+
+-- what the value of a request's forms gives
+pub data Finish : Type 0 where
+  -- these messages and this reply, with these values inspected
+  Replies : List Writing → List Value → Sexp → Finish
+  Fails : Condition → Finish
+  -- leaving a frame of the level with the value
+  LeavesFrame : (frame : ℤ) → Finish
+
+pub record Rules : Type 0 where
+  -- the value of a function that needs its arguments alone and whose step a thread may make by itself; None where it raises
+  pub alone : Symbol → List Value → Option Value
+  -- what a function with one step gives, with the full name of the current package; None where the symbol names none
+  pub outcome : List ℕ → Symbol → List Value → Option (Result Value Condition)
+  -- whether a symbol names a function with one step
+  pub is_one_step : Symbol → Bool
+  -- the tree of a form, or its first part that no row of the syntax fits
+  pub tree : Value → Result Ast Value
+  -- the text of a control text over arguments
+  pub formatted : List ℕ → List ℕ → List Value → Result (List ℕ) Condition
+  -- the packages after `defpackage`
+  pub with_package : List Package → Designator → Option (List Designator) → Option (List Designator) → Result (List Package) NameFault
+  -- what a request's function says is to be done
+  pub command : Asked → Command
+  -- what it says of the value of its forms, with what was kept
+  pub finish : Asked → (kept : Sexp) → Value → Finish
+  -- whether the function of a request is built
+  pub is_served : Sexp → Bool
