@@ -1,0 +1,5 @@
+use Rattle.session_model.proofs.Outputs.{outputs_are_written}
+use Rattle.session_model.proofs.laws.outputs_are_kept.Goals as goal
+
+pub returns : goal.returns
+returns c = outputs_are_written
