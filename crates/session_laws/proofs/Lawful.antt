@@ -1,0 +1,45 @@
+-- All laws of a journal.
+use Rattle.std.proofs.Common.{List, [], ◌∷◌, ◌++◌}
+use Rattle.step_model.specs.Image.{ImageState}
+use Rattle.step_model.specs.Rules.{Rules}
+use Rattle.session_model.specs.declared.event.Entry.{Entry}
+use Rattle.session_model.specs.Journal.{next, run, run_from}
+use Rattle.session_model.specs.Legal.{AreLegal, IsLegalFrom}
+use Rattle.session_model.specs.Running.{now_of}
+use Rattle.session_model.specs.World.{World, start}
+use Rattle.session_laws.specs.IsLawful.{IsLawful}
+use Rattle.session_laws.proofs.ActingAlone as alone
+use Rattle.session_laws.proofs.Answering as answering
+use Rattle.session_laws.proofs.CleansInnermost as innermost
+use Rattle.session_laws.proofs.Facts as facts
+use Rattle.session_laws.proofs.KeepsCleanups as cleanups
+use Rattle.session_laws.proofs.KeepsLevels as levels
+use Rattle.session_laws.proofs.KeepsTakings as takings
+use Rattle.session_laws.proofs.Prompt as prompt
+use Rattle.session_laws.proofs.Stale as stale
+
+legal_beginning : (rules : Rules) (a b : List Entry) (w : World) → AreLegal rules w (a ++ b) → AreLegal rules w a
+legal_beginning rules [] b w h = tt
+legal_beginning rules (e ∷ a) b w h = (h.0, legal_beginning rules a b (next rules w e).after h.1)
+
+legal_rest : (rules : Rules) (a b : List Entry) (w : World) → AreLegal rules w (a ++ b) → AreLegal rules (run_from rules w a).after b
+legal_rest rules [] b w h = h
+legal_rest rules (e ∷ a) b w h = legal_rest rules a b (next rules w e).after h.1
+
+-- a stretch of a legal journal is legal where it stands
+pub stretch_is_legal : (rules : Rules) (image : ImageState) (past stretch rest : List Entry) → IsLegalFrom rules image (past ++ (stretch ++ rest)) → AreLegal rules (run rules image past) stretch
+stretch_is_legal rules image past stretch rest h =
+    legal_beginning rules stretch rest (run rules image past) (legal_rest rules past (stretch ++ rest) (start image) h)
+
+pub is_lawful : (rules : Rules) (image : ImageState) (j : List Entry) → IsLawful rules image j
+is_lawful rules image j = record {
+  takes_in_order = takings.takes_in_order rules image j;
+  answers_once = answering.answers_once rules image j;
+  levels_nest = levels.levels_nest rules image j;
+  cleans_once = cleanups.cleans_once rules image j;
+  facts_hold = facts.facts_hold rules image j;
+  cleans_innermost = λ past rest is t thread e k. innermost.cleans_innermost rules (now_of (run rules image past) t thread) k;
+  acts_alone = λ past rest is. alone.acts_alone rules (run rules image past);
+  ignores_stale = λ past rest is. stale.ignores_stale rules (run rules image past);
+  breaks_promptly = λ past stretch rest is t. prompt.breaks_promptly rules (run rules image past) stretch t;
+}

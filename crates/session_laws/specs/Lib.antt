@@ -1,0 +1,12 @@
+pub mod Seen
+pub mod Counting
+pub mod LevelsNest
+pub mod CleansOnce
+pub mod AnswersOnce
+pub mod TakesInOrder
+pub mod ActsAlone
+pub mod FactsHold
+pub mod IgnoresStale
+pub mod BreaksPromptly
+pub mod IsLawful
+pub mod EndsWithItsReply
