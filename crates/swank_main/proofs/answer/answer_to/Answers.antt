@@ -6,9 +6,9 @@ use Rattle.swank_main.proofs.Lengths.{length-answer_to}
 use Rattle.swank_main.proofs.answer.answer_to.Goals as goal
 
 pub returns-clause-text : goal.returns-clause-text
-returns-clause-text c = printed-answer _ _ _ _ c.in_ok-text.ensures.text c.in_ok-form.ensures c.in_ok-info.ensures ∙ ap answer_to (to_z-of_z w64 c.args.id c.ranges.id)
+returns-clause-text c = printed-answer _ _ _ _ c.in_ok-text.ensures.text c.in_ok-form.ensures.form c.in_ok-info.ensures ∙ ap answer_to (to_z-of_z w64 c.args.id c.ranges.id)
 
 pub returns-clause-fits : goal.returns-clause-fits
 returns-clause-fits c =
-    let is : c.in_ok-text.text ≡ answer_to c.args.id = printed-answer _ _ _ _ c.in_ok-text.ensures.text c.in_ok-form.ensures c.in_ok-info.ensures ∙ ap answer_to (to_z-of_z w64 c.args.id c.ranges.id) in
+    let is : c.in_ok-text.text ≡ answer_to c.args.id = printed-answer _ _ _ _ c.in_ok-text.ensures.text c.in_ok-form.ensures.form c.in_ok-info.ensures ∙ ap answer_to (to_z-of_z w64 c.args.id c.ranges.id) in
     subst (λ (t : List ℕ). length t ≤ 0xFFFFFF) (sym is) (length-answer_to c.args.id c.ranges.id.sfits)
