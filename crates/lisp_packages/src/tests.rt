@@ -151,3 +151,59 @@ fn uses_and_exports_may_clash(rt: HostRuntime) -> Result<(), Fail> {
     drop((own, y));
     Ok(())
 }
+
+/// The names as texts; none of the empty one.
+fn names(alloc: Global, name: &str) -> Result<Rows<Text>, NameFault> {
+    let mut names = Rows::new(alloc);
+    if !name.is_empty() {
+        names.push(Text::of(alloc, name)?)?;
+    }
+    Ok(names)
+}
+
+/// What defining a package with this one use and this one export comes to.
+fn defined(
+    packages: &mut Packages,
+    alloc: Global,
+    name: &str,
+    used: &str,
+    exported: &str,
+) -> Result<&'static str, NameFault> {
+    let name = Text::of(alloc, name)?;
+    let uses = names(alloc, used)?;
+    let exports = names(alloc, exported)?;
+    match packages.define_package(&name, uses.as_slice(), exports.as_slice()) {
+        Ok(()) => Ok("defined"),
+        Err(NameFault::NoPackage(_)) => Ok("no package"),
+        Err(NameFault::Clash) => Ok("clash"),
+        Err(fault) => Err(fault),
+    }
+}
+
+#[test]
+fn packages_are_made_and_widened_unless_they_clash(rt: HostRuntime) -> Result<(), Fail> {
+    let alloc = rt.alloc();
+    let mut packages = Packages::new(alloc)?;
+    for (name, used, exported, want) in [
+        ("P", "CL", "A", "defined"),
+        ("P", "", "CONS", "defined"),
+        ("Q", "NOPE", "A", "no package"),
+        ("Q", "", "A", "defined"),
+        ("R", "P", "", "defined"),
+        ("R", "Q", "", "clash"),
+    ] {
+        let told = defined(&mut packages, alloc, name, used, exported)?;
+        assert_eq!(rt; told, want, "{name}");
+    }
+    for (package, token, want) in [
+        ("CL-USER", "P:A", "P::A"),
+        ("P", "CONS", "COMMON-LISP::CONS"),
+        ("CL-USER", "P:CONS", "COMMON-LISP::CONS"),
+        ("R", "A", "P::A"),
+        ("R", "CDR", "R::CDR"),
+    ] {
+        let text = told(&mut packages, alloc, package, token)?;
+        assert_eq!(rt; text.as_str(), want, "{package} {token}");
+    }
+    Ok(())
+}
