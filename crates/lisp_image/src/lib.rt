@@ -13,3 +13,6 @@ mod symbol_map;
 pub use function::{Function, Place};
 pub use image::Image;
 pub use symbol_map::SymbolMap;
+
+#[cfg(test)]
+mod tests;
