@@ -1,3 +1,5 @@
+mod each_function;
+
 use crate::{BuiltinFault, call_builtin, op_of};
 use lisp_data::{Boxed, NoMemory, Rows, Sexp, Symbol, Text, Value};
 use sexp_printer::print_user;
