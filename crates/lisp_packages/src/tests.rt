@@ -1,5 +1,5 @@
 use crate::{NameFault, Packages};
-use lisp_data::{Rows, Sexp, Text, Value};
+use lisp_data::{NoMemory, Rows, Sexp, Text, Value};
 use std::alloc::Global;
 use std::test::*;
 
@@ -21,6 +21,18 @@ fn told(
     text.push_str(joint)?;
     text.push_str(last.as_str())?;
     Ok(text)
+}
+
+/// Whether a token is told so.
+fn tells(
+    packages: &mut Packages,
+    alloc: Global,
+    package: &str,
+    token: &str,
+    want: &str,
+) -> Result<bool, NameFault> {
+    let text = told(packages, alloc, package, token)?;
+    Ok(text.as_str() == want)
 }
 
 #[test]
@@ -56,99 +68,245 @@ fn tokens_in_three_packages(rt: HostRuntime) -> Result<(), Fail> {
     ];
     let mut packages = Packages::new(alloc)?;
     for (package, token, want) in rows {
-        let text = told(&mut packages, alloc, package, token)?;
-        assert_eq!(rt; text.as_str(), want, "{package} {token}");
+        assert!(rt;
+            tells(&mut packages, alloc, package, token, want)?,
+            "{package} {token}"
+        );
     }
     Ok(())
+}
+
+/// Whether CL-USER has a symbol FRESH.
+fn is_made(packages: &Packages, alloc: Global) -> Result<bool, NoMemory> {
+    let user = Text::of(alloc, "CL-USER")?;
+    let fresh = Text::of(alloc, "FRESH")?;
+    Ok(packages.find_symbol(&user, &fresh).is_some())
+}
+
+/// The form of a token.
+fn token(alloc: Global, token: &str) -> Result<Sexp, NoMemory> {
+    Ok(Sexp::Sym(Text::of(alloc, token)?))
+}
+
+/// The form `(FRESH CL-USER:FRESH)`, whose second token is refused.
+fn refused(alloc: Global) -> Result<Sexp, NoMemory> {
+    let mut items = Rows::new(alloc);
+    items.push(token(alloc, "FRESH")?)?;
+    items.push(token(alloc, "CL-USER:FRESH")?)?;
+    Ok(Sexp::List(items))
+}
+
+/// Whether a form has a value in CL-USER.
+fn has_value(packages: &mut Packages, alloc: Global, form: &Sexp) -> Result<bool, NoMemory> {
+    let user = Text::of(alloc, "CL-USER")?;
+    match packages.value_of(&user, form) {
+        Ok(_) => Ok(true),
+        Err(_) => Ok(false),
+    }
+}
+
+/// Whether a form's value can be looked at in CL-USER.
+fn has_look(packages: &Packages, alloc: Global, form: &Sexp) -> Result<bool, NoMemory> {
+    let user = Text::of(alloc, "CL-USER")?;
+    match packages.look(&user, form) {
+        Ok(_) => Ok(true),
+        Err(_) => Ok(false),
+    }
+}
+
+/// Whether the form is refused and makes nothing.
+fn refuses(packages: &mut Packages, alloc: Global) -> Result<bool, NoMemory> {
+    let form = refused(alloc)?;
+    let has = has_value(packages, alloc, &form)?;
+    let made = is_made(packages, alloc)?;
+    Ok(!has && !made)
+}
+
+/// Whether the symbol can be looked at without its being made.
+fn looks(packages: &Packages, alloc: Global) -> Result<bool, NoMemory> {
+    let form = token(alloc, "FRESH")?;
+    let has = has_look(packages, alloc, &form)?;
+    let made = is_made(packages, alloc)?;
+    Ok(has && !made)
+}
+
+/// Whether the symbol is made where its value is wanted.
+fn makes(packages: &mut Packages, alloc: Global) -> Result<bool, NoMemory> {
+    let form = token(alloc, "FRESH")?;
+    let has = has_value(packages, alloc, &form)?;
+    let made = is_made(packages, alloc)?;
+    Ok(has && made)
 }
 
 #[test]
 fn a_refused_form_makes_no_symbol(rt: HostRuntime) -> Result<(), Fail> {
     let alloc = rt.alloc();
-    let user = Text::of(alloc, "CL-USER")?;
-    let fresh = Text::of(alloc, "FRESH")?;
     let mut packages = Packages::new(alloc)?;
-    let mut items = Rows::new(alloc);
-    items.push(Sexp::Sym(fresh.copy(alloc)?))?;
-    items.push(Sexp::Sym(Text::of(alloc, "CL-USER:FRESH")?))?;
-    let refused = packages.value_of(&user, &Sexp::List(items));
-    assert!(rt; refused.is_err());
-    drop(refused);
-    assert!(rt; packages.find_symbol(&user, &fresh).is_none());
-    let form = Sexp::Sym(fresh.copy(alloc)?);
-    drop(packages.look(&user, &form)?);
-    assert!(rt; packages.find_symbol(&user, &fresh).is_none());
-    drop(packages.value_of(&user, &form)?);
-    assert!(rt; packages.find_symbol(&user, &fresh).is_some());
-    let none = packages.value_of(&user, &Sexp::Sym(Text::of(alloc, "CL:NIL")?))?;
-    assert!(rt; none.same(&Value::List(Rows::new(alloc))));
-    drop(none);
+    assert!(rt; refuses(&mut packages, alloc)?);
     Ok(())
+}
+
+#[test]
+fn a_look_makes_no_symbol(rt: HostRuntime) -> Result<(), Fail> {
+    let alloc = rt.alloc();
+    let packages = Packages::new(alloc)?;
+    assert!(rt; looks(&packages, alloc)?);
+    Ok(())
+}
+
+#[test]
+fn a_value_makes_its_symbol(rt: HostRuntime) -> Result<(), Fail> {
+    let alloc = rt.alloc();
+    let mut packages = Packages::new(alloc)?;
+    assert!(rt; makes(&mut packages, alloc)?);
+    Ok(())
+}
+
+/// Whether CL:NIL is the empty list.
+fn nil_is_the_empty_list(packages: &mut Packages, alloc: Global) -> Result<bool, NameFault> {
+    let user = Text::of(alloc, "CL-USER")?;
+    let form = token(alloc, "CL:NIL")?;
+    let none = packages.value_of(&user, &form)?;
+    Ok(none.same(&Value::List(Rows::new(alloc))))
+}
+
+#[test]
+fn nil_is_a_list(rt: HostRuntime) -> Result<(), Fail> {
+    let alloc = rt.alloc();
+    let mut packages = Packages::new(alloc)?;
+    assert!(rt; nil_is_the_empty_list(&mut packages, alloc)?);
+    Ok(())
+}
+
+/// Whether a text is there and is this one.
+fn is_text(found: Option<&Text>, want: &str) -> bool {
+    match found {
+        Some(text) => text.as_str() == want,
+        None => false,
+    }
+}
+
+/// Whether CL-USER is found by its nickname, and prompts are the shortest names.
+fn names_are_known(packages: &Packages, user: &Text, keyword: &Text) -> bool {
+    is_text(packages.find_package(user), "COMMON-LISP-USER")
+        && is_text(packages.prompt(user), "CL-USER")
+        && is_text(packages.prompt(keyword), "KEYWORD")
+}
+
+/// Whether packages, uses and own symbols have their places.
+fn places_are_known(packages: &Packages, user: &Text) -> bool {
+    is_text(packages.package_at(0), "COMMON-LISP")
+        && packages.package_at(3).is_none()
+        && is_text(packages.used_at(user, 0), "COMMON-LISP")
+        && packages.used_at(user, 1).is_none()
+        && packages.own_at(user, 0).is_none()
+}
+
+/// Whether the first symbol of COMMON-LISP is QUOTE.
+fn quote_is_first(packages: &Packages, alloc: Global) -> Result<bool, NoMemory> {
+    let lisp = Text::of(alloc, "CL")?;
+    match packages.own_at(&lisp, 0) {
+        Some((symbol, _)) => Ok(symbol.name.as_str() == "QUOTE"),
+        None => Ok(false),
+    }
+}
+
+/// Whether all of this holds, and CL-USER is where a REPL may be.
+fn knows(packages: &Packages, alloc: Global) -> Result<bool, NameFault> {
+    let user = Text::of(alloc, "CL-USER")?;
+    let keyword = Text::of(alloc, "KEYWORD")?;
+    let whole = packages.in_package(&user)?;
+    let is_first = quote_is_first(packages, alloc)?;
+    Ok(
+        is_first
+            && whole.as_str() == "COMMON-LISP-USER"
+            && names_are_known(packages, &user, &keyword)
+            && places_are_known(packages, &user),
+    )
 }
 
 #[test]
 fn names_prompts_and_places(rt: HostRuntime) -> Result<(), Fail> {
     let alloc = rt.alloc();
     let packages = Packages::new(alloc)?;
-    let user = Text::of(alloc, "CL-USER")?;
-    let keyword = Text::of(alloc, "KEYWORD")?;
-    assert_eq!(rt; packages.in_package(&user)?.as_str(), "COMMON-LISP-USER");
-    assert_eq!(rt;
-        packages
-            .find_package(&user)
-            .map_or("", |name| name.as_str()),
-        "COMMON-LISP-USER"
-    );
-    assert_eq!(rt;
-        packages.prompt(&user).map_or("", |name| name.as_str()),
-        "CL-USER"
-    );
-    assert_eq!(rt;
-        packages.prompt(&keyword).map_or("", |name| name.as_str()),
-        "KEYWORD"
-    );
-    assert_eq!(rt;
-        packages.package_at(0).map_or("", |name| name.as_str()),
-        "COMMON-LISP"
-    );
-    assert!(rt; packages.package_at(3).is_none());
-    assert_eq!(rt;
-        packages.used_at(&user, 0).map_or("", |name| name.as_str()),
-        "COMMON-LISP"
-    );
-    assert!(rt; packages.used_at(&user, 1).is_none());
-    assert!(rt; packages.own_at(&user, 0).is_none());
-    let first = packages.own_at(&Text::of(alloc, "CL")?, 0);
-    assert_eq!(rt; first.map_or("", |found| found.0.name.as_str()), "QUOTE");
+    assert!(rt; knows(&packages, alloc)?);
     Ok(())
 }
 
-#[test]
-fn uses_and_exports_may_clash(rt: HostRuntime) -> Result<(), Fail> {
-    let alloc = rt.alloc();
-    let mut packages = Packages::new(alloc)?;
+/// What interning a name in a package comes to.
+fn interned(
+    packages: &mut Packages,
+    alloc: Global,
+    package: &str,
+    name: &str,
+) -> Result<&'static str, NoMemory> {
+    let package = Text::of(alloc, package)?;
+    let name = Text::of(alloc, name)?;
+    match packages.intern(&package, &name) {
+        Ok(_) => Ok("made"),
+        Err(NameFault::Clash) => Ok("clash"),
+        Err(_) => Ok("refused"),
+    }
+}
+
+/// Interns a name in CL-USER and exports it from a package.
+fn export(
+    packages: &mut Packages,
+    alloc: Global,
+    package: &str,
+    name: &str,
+) -> Result<(), NameFault> {
+    let user = Text::of(alloc, "CL-USER")?;
+    let package = Text::of(alloc, package)?;
+    let name = Text::of(alloc, name)?;
+    let symbol = packages.intern(&user, &name)?;
+    packages.export(&package, &symbol)
+}
+
+/// Makes CL-USER a user of KEYWORD.
+fn use_keywords(packages: &mut Packages, alloc: Global) -> Result<(), NameFault> {
     let user = Text::of(alloc, "CL-USER")?;
     let keyword = Text::of(alloc, "KEYWORD")?;
-    let x = Text::of(alloc, "X")?;
-    let own = packages.intern(&user, &x)?;
-    packages.export(&user, &own)?;
-    assert_eq!(rt;
-        told(&mut packages, alloc, "KEYWORD", "CL-USER:X")?.as_str(),
-        "COMMON-LISP-USER::X"
-    );
-    packages.use_package(&user, &keyword)?;
-    let clash = packages.intern(&keyword, &x);
-    assert!(rt; matches!(clash, Err(NameFault::Clash)));
-    drop(clash);
-    let y = packages.intern(&keyword, &Text::of(alloc, "Y")?)?;
-    assert_eq!(rt;
-        told(&mut packages, alloc, "CL-USER", "Y")?.as_str(),
-        "KEYWORD::Y"
-    );
-    let clash = packages.export(&keyword, &own);
-    assert!(rt; clash.is_ok());
-    drop(clash);
-    drop((own, y));
+    packages.use_package(&user, &keyword)
+}
+
+/// Whether a keyword that would clash with a symbol of a package which uses KEYWORD is refused, and another seen there.
+fn keywords_are_seen(packages: &mut Packages, alloc: Global) -> Result<bool, NameFault> {
+    export(packages, alloc, "CL-USER", "X")?;
+    use_keywords(packages, alloc)?;
+    let x = interned(packages, alloc, "KEYWORD", "X")?;
+    let y = interned(packages, alloc, "KEYWORD", "Y")?;
+    let is_seen = tells(packages, alloc, "CL-USER", "Y", "KEYWORD::Y")?;
+    Ok(is_seen && x == "clash" && y == "made")
+}
+
+#[test]
+fn keywords_are_seen_where_they_are_used(rt: HostRuntime) -> Result<(), Fail> {
+    let alloc = rt.alloc();
+    let mut packages = Packages::new(alloc)?;
+    assert!(rt; keywords_are_seen(&mut packages, alloc)?);
+    Ok(())
+}
+
+/// Whether a symbol that is exported is seen through one colon, and may be exported from KEYWORD too.
+fn exports_are_seen(packages: &mut Packages, alloc: Global) -> Result<bool, NameFault> {
+    export(packages, alloc, "CL-USER", "X")?;
+    let is_seen = tells(
+        packages,
+        alloc,
+        "KEYWORD",
+        "CL-USER:X",
+        "COMMON-LISP-USER::X",
+    )?;
+    export(packages, alloc, "KEYWORD", "X")?;
+    Ok(is_seen)
+}
+
+#[test]
+fn an_export_is_seen_through_one_colon(rt: HostRuntime) -> Result<(), Fail> {
+    let alloc = rt.alloc();
+    let mut packages = Packages::new(alloc)?;
+    assert!(rt; exports_are_seen(&mut packages, alloc)?);
     Ok(())
 }
 
@@ -180,6 +338,19 @@ fn defined(
     }
 }
 
+/// Whether defining a package with this one use and this one export comes to that.
+fn defines(
+    packages: &mut Packages,
+    alloc: Global,
+    name: &str,
+    used: &str,
+    exported: &str,
+    want: &str,
+) -> Result<bool, NameFault> {
+    let told = defined(packages, alloc, name, used, exported)?;
+    Ok(told == want)
+}
+
 #[test]
 fn packages_are_made_and_widened_unless_they_clash(rt: HostRuntime) -> Result<(), Fail> {
     let alloc = rt.alloc();
@@ -192,8 +363,10 @@ fn packages_are_made_and_widened_unless_they_clash(rt: HostRuntime) -> Result<()
         ("R", "P", "", "defined"),
         ("R", "Q", "", "clash"),
     ] {
-        let told = defined(&mut packages, alloc, name, used, exported)?;
-        assert_eq!(rt; told, want, "{name}");
+        assert!(rt;
+            defines(&mut packages, alloc, name, used, exported, want)?,
+            "{name}"
+        );
     }
     for (package, token, want) in [
         ("CL-USER", "P:A", "P::A"),
@@ -202,8 +375,10 @@ fn packages_are_made_and_widened_unless_they_clash(rt: HostRuntime) -> Result<()
         ("R", "A", "P::A"),
         ("R", "CDR", "R::CDR"),
     ] {
-        let text = told(&mut packages, alloc, package, token)?;
-        assert_eq!(rt; text.as_str(), want, "{package} {token}");
+        assert!(rt;
+            tells(&mut packages, alloc, package, token, want)?,
+            "{package} {token}"
+        );
     }
     Ok(())
 }
