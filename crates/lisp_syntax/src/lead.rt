@@ -2,15 +2,15 @@
 
 ghost use Rattle.std.specs.Prelude.{◌≡◌, [], ◌∷◌, ◌++◌, map, codes, IfOk};
 ghost use Rattle.lisp_data.specs.declared.value.Value as value;
-ghost use Rattle.lisp_syntax.specs.Operators.{name_of};
-ghost use Rattle.lisp_syntax.specs.declared.operator.Operator.TheVariants as op;
-ghost use Rattle.lisp_syntax.specs.Rows.{operation, optional, type_form, report_forms, marked, rest_marked, parameter_forms, designator_form, option_forms};
+ghost use Rattle.syntax_rows.specs.Operators.{name_of};
+ghost use Rattle.syntax_rows.specs.declared.operator.Operator.TheVariants as op;
+ghost use Rattle.syntax_rows.specs.Rows.{operation, optional, type_form, report_forms, marked, rest_marked, parameter_forms, designator_form, option_forms};
 ghost use Rattle.syntax_trees.specs.Symbols.{cl, keyword, value_of_symbol};
 
-use crate::operator::Operator;
 use crate::symbols::{cl, keyword, value_of_symbol};
 use lisp_data::{NoMemory, Rows, Symbol, Text, TypeId, Value};
 use std::alloc::Global;
+use syntax_rows::Operator;
 use syntax_trees::{Designator, Name, Parameters};
 
 /// The items of a form so far: the operator's symbol.

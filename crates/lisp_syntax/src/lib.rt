@@ -1,11 +1,10 @@
 //! Syntax trees and the forms that they stand for.
 //!
-//! [`unparse`] gives the form of a tree: what the crates above use is that the form is `unparsed` of the tree. The form of each row,
-//! one a variant of [`Ast`], stands in `specs/Rows.antt`; the form of a whole tree in `specs/Trees.antt`.
+//! [`unparse`] gives the form of a tree: what the crates above use is that the form is `unparsed` of the tree. The rows, and what a form's
+//! tree is, stand in the crate `syntax_rows`.
 #![tactic(auto)]
 
 mod lead;
-mod operator;
 mod symbols;
 #[cfg(test)]
 mod tests;

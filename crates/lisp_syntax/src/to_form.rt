@@ -1,17 +1,17 @@
 ghost use Rattle.std.specs.Prelude.{◌≡◌, [], ◌∷◌, ◌++◌, map, IfOk, OnOk};
 ghost use Rattle.std.specs.List.{flat_map};
 ghost use Rattle.lisp_data.specs.declared.value.Value as value;
-ghost use Rattle.lisp_syntax.specs.Operators.{name_of};
-ghost use Rattle.lisp_syntax.specs.Rows.{optional};
+ghost use Rattle.syntax_rows.specs.Operators.{name_of};
+ghost use Rattle.syntax_rows.specs.Rows.{optional};
 ghost use Rattle.syntax_trees.specs.Symbols.{cl, value_of_symbol};
 ghost use Rattle.syntax_trees.specs.declared.ast.Ast as tree_of;
-ghost use Rattle.lisp_syntax.specs.Trees.{unparsed, unparsed_clause, unparsed_binding, unparsed_assignment, unparsed_handler, unparsed_handler_clause, unparsed_restart_clause};
+ghost use Rattle.syntax_rows.specs.Trees.{unparsed, unparsed_clause, unparsed_binding, unparsed_assignment, unparsed_handler, unparsed_handler_clause, unparsed_restart_clause};
 
 use crate::lead;
-use crate::operator::Operator;
 use crate::symbols::value_of_symbol;
 use lisp_data::{Boxed, NoMemory, Rows, Symbol, Text, Value};
 use std::alloc::Global;
+use syntax_rows::Operator;
 use syntax_trees::{Assignment, Ast, Binding, Clause, Handler, HandlerClause, Init, RestartClause};
 
 /// The form that a tree stands for.
@@ -174,7 +174,7 @@ pub fn unparse(alloc: Global, tree: &Ast) -> Result<Value, NoMemory>
 }
 
 #[cycle(unparse)]
-#[tactic(auto, using(crate::proofs::Unparsing::unparsed_Cond))]
+#[tactic(auto, using(syntax_rows::proofs::Unparsing::unparsed_Cond))]
 fn cond_form(alloc: Global, clauses: &[Clause<Ast>]) -> Result<Value, NoMemory>
     ensures { IfOk result (λ form. form ≡ unparsed (tree_of.Cond clauses.now)) }
 {
@@ -184,7 +184,7 @@ fn cond_form(alloc: Global, clauses: &[Clause<Ast>]) -> Result<Value, NoMemory>
 }
 
 #[cycle(unparse)]
-#[tactic(auto, using(crate::proofs::Unparsing::unparsed_Let))]
+#[tactic(auto, using(syntax_rows::proofs::Unparsing::unparsed_Let))]
 fn let_form(alloc: Global, bindings: &[Binding<Ast>], body: &[Ast]) -> Result<Value, NoMemory>
     ensures { IfOk result (λ form. form ≡ unparsed (tree_of.Let bindings.now body.now)) }
 {
@@ -195,7 +195,7 @@ fn let_form(alloc: Global, bindings: &[Binding<Ast>], body: &[Ast]) -> Result<Va
 }
 
 #[cycle(unparse)]
-#[tactic(auto, using(crate::proofs::Unparsing::unparsed_LetStar))]
+#[tactic(auto, using(syntax_rows::proofs::Unparsing::unparsed_LetStar))]
 fn let_star_form(alloc: Global, bindings: &[Binding<Ast>], body: &[Ast]) -> Result<Value, NoMemory>
     ensures { IfOk result (λ form. form ≡ unparsed (tree_of.LetStar bindings.now body.now)) }
 {
@@ -206,7 +206,7 @@ fn let_star_form(alloc: Global, bindings: &[Binding<Ast>], body: &[Ast]) -> Resu
 }
 
 #[cycle(unparse)]
-#[tactic(auto, using(crate::proofs::Unparsing::unparsed_Setq))]
+#[tactic(auto, using(syntax_rows::proofs::Unparsing::unparsed_Setq))]
 fn setq_form(alloc: Global, pairs: &[Assignment<Ast>]) -> Result<Value, NoMemory>
     ensures { IfOk result (λ form. form ≡ unparsed (tree_of.Setq pairs.now)) }
 {
@@ -216,7 +216,7 @@ fn setq_form(alloc: Global, pairs: &[Assignment<Ast>]) -> Result<Value, NoMemory
 }
 
 #[cycle(unparse)]
-#[tactic(auto, using(crate::proofs::Unparsing::unparsed_HandlerBind))]
+#[tactic(auto, using(syntax_rows::proofs::Unparsing::unparsed_HandlerBind))]
 fn handler_bind_form(
     alloc: Global,
     handlers: &[Handler<Ast>],
@@ -231,7 +231,7 @@ fn handler_bind_form(
 }
 
 #[cycle(unparse)]
-#[tactic(auto, using(crate::proofs::Unparsing::unparsed_HandlerCase))]
+#[tactic(auto, using(syntax_rows::proofs::Unparsing::unparsed_HandlerCase))]
 fn handler_case_form(
     alloc: Global,
     clauses: &[HandlerClause<Ast>],
@@ -246,7 +246,7 @@ fn handler_case_form(
 }
 
 #[cycle(unparse)]
-#[tactic(auto, using(crate::proofs::Unparsing::unparsed_RestartCase))]
+#[tactic(auto, using(syntax_rows::proofs::Unparsing::unparsed_RestartCase))]
 fn restart_case_form(
     alloc: Global,
     clauses: &[RestartClause<Ast>],

@@ -1,6 +1,6 @@
 use Rattle.std.proofs.Common.{◌≡◌, ◌∷◌, map, take}
 use Rattle.lisp_data.specs.declared.value.Value as value
-use Rattle.lisp_syntax.specs.Rows.{designator_form}
+use Rattle.syntax_rows.specs.Rows.{designator_form}
 use Rattle.syntax_trees.specs.Symbols.{keyword}
 use Rattle.lisp_syntax.proofs.lead.option_list.Given as goal
 

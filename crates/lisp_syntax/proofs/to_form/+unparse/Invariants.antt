@@ -2,7 +2,7 @@ use Rattle.std.proofs.Common.{◌≡◌, ◌+◌, ◌*◌, ◌++◌, map, max, t
 use Rattle.std.specs.List.{flat_map}
 use denote.Param.Weighed.{most}
 use Rattle.syntax_trees.specs.declared.ast.Ast.TheViews.{size-Ast}
-use Rattle.lisp_syntax.specs.Trees.{unparsed, unparsed_clause, unparsed_binding, unparsed_assignment, unparsed_handler, unparsed_handler_clause, unparsed_restart_clause}
+use Rattle.syntax_rows.specs.Trees.{unparsed, unparsed_clause, unparsed_binding, unparsed_assignment, unparsed_handler, unparsed_handler_clause, unparsed_restart_clause}
 use Rattle.lisp_syntax.proofs.to_form.+unparse.Given as goal
 
 abbrev pub invariant-with_forms-loop-tree : goal.invariant-with_forms-loop-tree

@@ -12,7 +12,7 @@ use Rattle.syntax_trees.specs.declared.ast.HandlerClause.{HandlerClause}
 use Rattle.syntax_trees.specs.declared.ast.RestartClause.{RestartClause}
 use Rattle.syntax_trees.specs.declared.ast.Ast.{Ast}
 use Rattle.syntax_trees.specs.declared.ast.Ast.TheFolds.{fold-Ast}
-use Rattle.lisp_syntax.specs.Rows.{form_of, clause_form, bound_form, type_form, report_forms, optional}
+use Rattle.syntax_rows.specs.Rows.{form_of, clause_form, bound_form, type_form, report_forms, optional}
 
 -- the form that a tree stands for: that of its row, with the forms of its subtrees in their places
 abbrev pub unparsed : Ast → Value

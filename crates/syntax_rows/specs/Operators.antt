@@ -1,7 +1,12 @@
 -- The operators: the symbols of COMMON-LISP that head a form of a shape of its own.
-use Rattle.std.specs.Prelude.{ℕ, List, codes}
-use Rattle.lisp_syntax.specs.declared.operator.Operator.{Operator}
-use Rattle.lisp_syntax.specs.declared.operator.Operator.TheVariants as op
+use Rattle.std.specs.Prelude.{ℕ, List, codes, Option, None, if◌then◌else◌}
+use Rattle.std.specs.List.{find}
+use Rattle.std.specs.Str.{bytes_eq}
+use Rattle.lisp_data.specs.declared.symbol.Symbol.{Symbol}
+use Rattle.syntax_trees.specs.Symbols.{is_of_common_lisp}
+use Rattle.syntax_rows.specs.declared.operator.Operator.{Operator}
+use Rattle.syntax_rows.specs.declared.operator.Operator.TheVariants as op
+use Rattle.syntax_rows.specs.declared.operator.TheConstants.{OPERATORS}
 
 -- the name of the operator's symbol
 abbrev pub name_of : Operator → List ℕ
@@ -36,3 +41,11 @@ name_of op.RestartCase = codes "RESTART-CASE"
 name_of op.WithSimpleRestart = codes "WITH-SIMPLE-RESTART"
 name_of op.InPackage = codes "IN-PACKAGE"
 name_of op.Defpackage = codes "DEFPACKAGE"
+
+-- the operator whose symbol has the name
+unfoldable pub operator_named : List ℕ → Option Operator
+operator_named name = find (λ o. bytes_eq (name_of o) name) OPERATORS
+
+-- the operator that the symbol is, None where the symbol is none
+unfoldable pub operator_of : Symbol → Option Operator
+operator_of symbol = if is_of_common_lisp symbol then operator_named symbol.name else None

@@ -8,9 +8,9 @@ use Rattle.lisp_data.specs.declared.value.Value.{Value}
 use Rattle.lisp_data.specs.declared.value.Value as value
 use Rattle.lisp_types.specs.Types.{name_of as type_name}
 use Rattle.syntax_trees.specs.Symbols.{cl, keyword, value_of_symbol}
-use Rattle.lisp_syntax.specs.Operators.{name_of}
-use Rattle.lisp_syntax.specs.declared.operator.Operator.{Operator}
-use Rattle.lisp_syntax.specs.declared.operator.Operator.TheVariants as op
+use Rattle.syntax_rows.specs.Operators.{name_of}
+use Rattle.syntax_rows.specs.declared.operator.Operator.{Operator}
+use Rattle.syntax_rows.specs.declared.operator.Operator.TheVariants as op
 use Rattle.syntax_trees.specs.declared.ast.Ast.TheOpen.{Ast-F}
 use Rattle.syntax_trees.specs.declared.ast.Clause.{Clause}
 use Rattle.syntax_trees.specs.declared.ast.Init.{Init}

@@ -18,9 +18,9 @@ use Rattle.syntax_trees.specs.declared.ast.Assignment.{Assignment}
 use Rattle.syntax_trees.specs.declared.ast.Handler.{Handler}
 use Rattle.syntax_trees.specs.declared.ast.HandlerClause.{HandlerClause}
 use Rattle.syntax_trees.specs.declared.ast.RestartClause.{RestartClause}
-use Rattle.lisp_syntax.specs.Rows.{operation, form_of, clause_form, binding_form, bound_form, assignment_forms, handler_form, handler_clause_form, restart_clause_form}
-use Rattle.lisp_syntax.specs.Trees.{unparsed, unparsed_clause, unparsed_init, unparsed_binding, unparsed_assignment, unparsed_handler, unparsed_handler_clause, unparsed_restart_clause}
-use Rattle.lisp_syntax.specs.declared.operator.Operator.TheVariants as op
+use Rattle.syntax_rows.specs.Rows.{operation, form_of, clause_form, binding_form, bound_form, assignment_forms, handler_form, handler_clause_form, restart_clause_form}
+use Rattle.syntax_rows.specs.Trees.{unparsed, unparsed_clause, unparsed_init, unparsed_binding, unparsed_assignment, unparsed_handler, unparsed_handler_clause, unparsed_restart_clause}
+use Rattle.syntax_rows.specs.declared.operator.Operator.TheVariants as op
 
 -- what is done to each item twice is done once
 map-map : {A B C : Type 0} (f : B → C) (g : A → B) (h : A → C) → ((x : A) → f (g x) ≡ h x) → (xs : List A) → map f (map g xs) ≡ map h xs

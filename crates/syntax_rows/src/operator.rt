@@ -1,5 +1,5 @@
 ghost use Rattle.std.specs.Prelude.{◌≡◌};
-ghost use Rattle.lisp_syntax.specs.Operators.{name_of};
+ghost use Rattle.syntax_rows.specs.Operators.{name_of};
 
 /// The symbols of COMMON-LISP that head a form of a shape of its own. Every other symbol heads a call.
 #[derive(Clone, Copy)]
@@ -36,6 +36,41 @@ pub enum Operator {
     InPackage,
     Defpackage,
 }
+
+/// Every operator once.
+const OPERATORS: [Operator; 31] = [
+    Operator::Quote,
+    Operator::Function,
+    Operator::If,
+    Operator::When,
+    Operator::Unless,
+    Operator::Cond,
+    Operator::And,
+    Operator::Or,
+    Operator::Progn,
+    Operator::Let,
+    Operator::LetStar,
+    Operator::Setq,
+    Operator::Block,
+    Operator::ReturnFrom,
+    Operator::Return,
+    Operator::Loop,
+    Operator::DoTimes,
+    Operator::DoList,
+    Operator::Catch,
+    Operator::Throw,
+    Operator::UnwindProtect,
+    Operator::Defun,
+    Operator::Defvar,
+    Operator::Defparameter,
+    Operator::HandlerBind,
+    Operator::HandlerCase,
+    Operator::IgnoreErrors,
+    Operator::RestartCase,
+    Operator::WithSimpleRestart,
+    Operator::InPackage,
+    Operator::Defpackage,
+];
 
 impl Operator {
     /// The name of its symbol.
