@@ -12,7 +12,8 @@ use Rattle.sexp_reader.specs.declared.fault.ReadFault.TheVariants.{NoMemory}
 use Rattle.sexp_reader.specs.Grammar.{IsSpelled}
 use Rattle.lisp_data.specs.declared.sexp.Sexp.{Sexp}
 use Rattle.rpc_messages.specs.Incoming.{message_in}
-use Rattle.inlet.specs.Messages.{IsMessageOf, is_no_text, is_no_form, is_form, fault_name, message_or_unknown, AreMessagesOf, none, next}
+use Rattle.fault_names.specs.Names.{fault_name}
+use Rattle.inlet.specs.Messages.{IsMessageOf, is_no_text, is_no_form, is_form, message_or_unknown, AreMessagesOf, none, next}
 
 -- what holds of a message holds of the one that was answered
 pub IfOk-is : {E : Type 0} (result : Result FromEmacs E) (message : FromEmacs) (P : FromEmacs → Type 0) → P message → IfOk result (λ m. m ≡ message) → IfOk result P

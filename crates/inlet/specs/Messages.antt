@@ -1,6 +1,7 @@
 -- The messages of payloads, as `read-message` of SLIME's `swank/rpc.lisp` reads them.
 use Rattle.std.specs.Prelude.{◌≡◌, ℕ, List, [], ◌∷◌, codes, Option, Some, None}
 use Rattle.std.specs.Str.{chars, IsUtf8}
+use Rattle.fault_names.specs.Names.{fault_name}
 use Rattle.lisp_data.specs.declared.sexp.Sexp.{Sexp}
 use Rattle.packet_framing.specs.Packets.{first_packet, packets}
 use Rattle.rpc_messages.specs.Cut.{cut}
@@ -10,18 +11,6 @@ use Rattle.rpc_messages.specs.declared.from_emacs.FromEmacs.TheVariants.{Unreada
 use Rattle.sexp_reader.specs.Faults.{IsFault}
 use Rattle.sexp_reader.specs.Grammar.{IsSpelled}
 use Rattle.sexp_reader.specs.declared.fault.ReadFault.{ReadFault}
-use Rattle.sexp_reader.specs.declared.fault.ReadFault.TheVariants.{End, Unclosed, StrayClose, BadToken, TooDeep, NumberTooWide, TrailingText, NoMemory}
-
--- the name of a fault of a text
-abbrev pub fault_name : ReadFault → List ℕ
-fault_name End = codes "End"
-fault_name Unclosed = codes "Unclosed"
-fault_name StrayClose = codes "StrayClose"
-fault_name BadToken = codes "BadToken"
-fault_name TooDeep = codes "TooDeep"
-fault_name NumberTooWide = codes "NumberTooWide"
-fault_name TrailingText = codes "TrailingText"
-fault_name NoMemory = codes "NoMemory"
 
 -- the message of a packet that was read, or that its form is no message
 abbrev pub message_or_unknown : List ℕ → Option FromEmacs → FromEmacs

@@ -1,29 +1,15 @@
 ghost use Rattle.std.specs.Prelude.{◌≡◌, ◌≢◌, [], IfOk, codes};
-ghost use Rattle.inlet.specs.Messages as spec;
+ghost use Rattle.fault_names.specs.Names.{fault_name};
 ghost use Rattle.inlet.specs.Messages.{IsMessageOf, message_or_unknown};
 ghost use Rattle.rpc_messages.specs.Cut.{cut};
 ghost use Rattle.rpc_messages.specs.Incoming.{message_in};
 ghost use Rattle.rpc_messages.specs.declared.from_emacs.FromEmacs.TheVariants as message;
 
+use fault_names::fault_name;
 use lisp_data::{NoMemory, Sexp, Text};
 use rpc_messages::{FromEmacs, MessageFault, cut as cut_text, of_sexp};
 use sexp_reader::{ReadFault, read_form};
 use std::alloc::Global;
-
-fn fault_name(fault: ReadFault) -> &'static str
-    ensures { result.now ≡ spec.fault_name fault }
-{
-    match fault {
-        ReadFault::End => "End",
-        ReadFault::Unclosed => "Unclosed",
-        ReadFault::StrayClose => "StrayClose",
-        ReadFault::BadToken => "BadToken",
-        ReadFault::TooDeep => "TooDeep",
-        ReadFault::NumberTooWide => "NumberTooWide",
-        ReadFault::TrailingText => "TrailingText",
-        ReadFault::NoMemory => "NoMemory",
-    }
-}
 
 fn unreadable(alloc: Global, packet: &str, fault: &str) -> Result<FromEmacs, NoMemory>
     ensures { IfOk result (λ m. m ≡ message.Unreadable (cut packet.now) fault.now) }
@@ -46,7 +32,7 @@ fn message_of_form(alloc: Global, packet: &str, form: &Sexp) -> Result<FromEmacs
 /// The message of a payload whose text is no form. Want of memory is no fault of the text.
 fn message_of_fault(alloc: Global, packet: &str, fault: ReadFault) -> Result<FromEmacs, NoMemory>
     ensures fault { IfOk result (λ _. fault ≢ ReadFault.NoMemory) }
-    ensures value { IfOk result (λ m. m ≡ message.Unreadable (cut packet.now) (spec.fault_name fault)) }
+    ensures value { IfOk result (λ m. m ≡ message.Unreadable (cut packet.now) (fault_name fault)) }
 {
     match fault {
         ReadFault::NoMemory => Err(NoMemory),
