@@ -16,7 +16,7 @@ use Rattle.lisp_data.specs.declared.no_memory.NoMemory.{NoMemory}
 use Rattle.swank_main.specs.Answers.{Asks, IsAnswer, IsFormAnswer, IsUnbuilt, answer_to, refused}
 use Rattle.swank_main.specs.declared.answer.Answer.{Answer}
 use Rattle.swank_main.specs.declared.answer.Answer.TheVariants as answer
-use Rattle.swank_main.specs.Info.{info}
+use Rattle.server_info.specs.Info.{info}
 use Rattle.swank_main.specs.Request.{id_asked}
 
 -- what is printed is the answer

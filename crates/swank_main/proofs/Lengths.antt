@@ -17,7 +17,7 @@ use Rattle.lisp_data.specs.declared.sexp.Sexp.TheFolds.{fold-roll-Sexp}
 use Rattle.lisp_data.specs.declared.sexp.Sexp.TheVariants as form
 use Rattle.lisp_data.specs.declared.sexp.Sexp.TheVariants.{rolls-Int, rolls-Str, rolls-Sym, rolls-List}
 use Rattle.sexp_printer.specs.Printed.{changed, quoted, escaped, others_of, in_parentheses, text_step, printed}
-use Rattle.swank_main.specs.Info as info
+use Rattle.server_info.specs.Info as info
 
 printed-int : (z : ℤ) → printed (form.Int z) ≡ signed_decimal z
 printed-int z = ap printed (sym (rolls-Int z)) ∙ fold-roll-Sexp (List ℕ) (text_step to_ascii_lowercase) (Sexp-F.Int z)

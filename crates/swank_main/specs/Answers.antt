@@ -10,7 +10,7 @@ use Rattle.sexp_printer.specs.Printed.{printed}
 use Rattle.rpc_messages.specs.Outgoing.{form_of}
 use Rattle.rpc_messages.specs.declared.to_emacs.Returned.TheVariants as returned
 use Rattle.rpc_messages.specs.declared.to_emacs.ToEmacs.TheVariants.{Return}
-use Rattle.swank_main.specs.Info.{info}
+use Rattle.server_info.specs.Info.{info}
 use Rattle.swank_main.specs.Request.{id_asked}
 use Rattle.swank_main.specs.declared.answer.Answer.{Answer}
 use Rattle.swank_main.specs.declared.answer.Answer.TheVariants as answer

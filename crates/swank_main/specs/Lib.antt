@@ -1,6 +1,5 @@
 pub mod Answers
 pub mod Ends
-pub mod Info
 pub mod Kept
 pub mod Numbers
 pub mod Request

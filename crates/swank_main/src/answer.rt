@@ -4,11 +4,11 @@ ghost use Rattle.swank_main.specs.Answers.{IsAnswer, IsFormAnswer, answer_to, re
 ghost use Rattle.swank_main.specs.Request.{id_asked};
 ghost use Rattle.swank_main.specs.Kept.{IsFrontAnswer, AnswersKept};
 
-use crate::info::connection_info;
 use crate::request::id_asked;
 use lisp_data::{NoMemory, Rows, Sexp, Text};
 use packet_framing::{Decoder, Next};
 use rpc_messages::{Returned, ToEmacs, to_sexp};
+use server_info::info;
 use sexp_printer::print_wire;
 use sexp_reader::{ReadFault, read_form};
 use std::alloc::Global;
@@ -54,7 +54,7 @@ fn answer_to(alloc: Global, id: i64) -> Result<Text, NoMemory>
     ensures text { IfOk result (λ text. text ≡ answer_to id) }
     ensures fits { IfOk result (λ text. length text ≤ 0xFFFFFF) }
 {
-    let info = connection_info(alloc, "COMMON-LISP-USER", "CL-USER")?;
+    let info = info(alloc, "COMMON-LISP-USER", "CL-USER")?;
     let message = ToEmacs::Return {
         id,
         result: Returned::Ok(info),

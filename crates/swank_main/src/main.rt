@@ -3,12 +3,11 @@
 //! [`run::run`] is the whole of it over any source and any sink, and its clauses are the program's promises; [`main`] hands it the
 //! words of the command line and the standard streams, and turns the status that it gives into the exit status and a line on
 //! standard error. What `run` promises stands in `specs/Ends.antt` and `specs/Answers.antt`, the one request that is answered in
-//! `specs/Request.antt`, and its answer in `specs/Info.antt`.
+//! `specs/Request.antt`, and its answer is the `info` of the crate `server_info`.
 #![tactic(auto)]
 
 mod answer;
 mod devices;
-mod info;
 mod request;
 mod run;
 mod status;

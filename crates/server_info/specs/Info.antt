@@ -1,5 +1,5 @@
--- The answer of `swank:connection-info`, after the function of that name in SLIME's `swank.lisp`.
-use Rattle.std.specs.Prelude.{ℕ, ℤ, pos, List, [], ◌∷◌, ◌++◌, codes}
+-- What the server says of itself, after `connection-info` of SLIME's `swank.lisp`.
+use Rattle.std.specs.Prelude.{ℕ, pos, List, [], ◌∷◌, ◌++◌, codes}
 use Rattle.lisp_data.specs.declared.sexp.Sexp.{Sexp}
 use Rattle.lisp_data.specs.declared.sexp.Sexp.TheVariants as form
 
@@ -38,6 +38,6 @@ about_image name prompt =
     ∷ form.Sym (codes ":VERSION") ∷ form.Str (codes "2.28")
     ∷ []
 
--- what the server says of itself
+-- what the server says of itself, where the global package has this name and this prompt
 abbrev pub info : List ℕ → List ℕ → Sexp
 info name prompt = form.List (about_server ++ about_image name prompt)

@@ -1,4 +1,4 @@
-use Rattle.swank_main.proofs.info.connection_info.Goals as goal
+use Rattle.server_info.proofs.server.info.Goals as goal
 
 pub returns : goal.returns
 returns c = rw (

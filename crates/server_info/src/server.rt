@@ -1,33 +1,10 @@
 ghost use Rattle.std.specs.Prelude.{◌≡◌, [], ◌∷◌, ◌++◌, IfOk, OnOk};
 ghost use Rattle.lisp_data.specs.declared.sexp.Sexp.TheVariants as form;
-ghost use Rattle.swank_main.specs.Info as spec;
+ghost use Rattle.server_info.specs.Info as spec;
 
-use lisp_data::{NoMemory, Rows, Sexp, Text};
+use crate::forms::{list, nil, string, symbol};
+use lisp_data::{NoMemory, Rows, Sexp};
 use std::alloc::Global;
-
-fn symbol(alloc: Global, token: &str) -> Result<Sexp, NoMemory>
-    ensures { IfOk result (λ x. x ≡ form.Sym token.now) }
-{
-    Ok(Sexp::Sym(Text::of(alloc, token)?))
-}
-
-fn string(alloc: Global, text: &str) -> Result<Sexp, NoMemory>
-    ensures { IfOk result (λ x. x ≡ form.Str text.now) }
-{
-    Ok(Sexp::Str(Text::of(alloc, text)?))
-}
-
-fn list<const N: usize>(alloc: Global, items: [Sexp; N]) -> Result<Sexp, NoMemory>
-    ensures { IfOk result (λ x. x ≡ form.List items.entry) }
-{
-    Ok(Sexp::List(Rows::from_vec(Vec::from_array(alloc, items)?)))
-}
-
-fn nil(alloc: Global) -> Sexp
-    ensures { result ≡ form.List [] }
-{
-    Sexp::List(Rows::new(alloc))
-}
 
 fn encoding(alloc: Global) -> Result<Sexp, NoMemory>
     ensures { IfOk result (λ x. x ≡ spec.encoding) }
@@ -93,7 +70,7 @@ fn about_server(alloc: Global) -> Result<Rows<Sexp>, NoMemory>
 }
 
 /// What the server says of itself, with the name and the prompt of the global package.
-pub fn connection_info(alloc: Global, name: &str, prompt: &str) -> Result<Sexp, NoMemory>
+pub fn info(alloc: Global, name: &str, prompt: &str) -> Result<Sexp, NoMemory>
     ensures { IfOk result (λ x. x ≡ spec.info name.now prompt.now) }
 {
     let mut parts = about_server(alloc)?;
