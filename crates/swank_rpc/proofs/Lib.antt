@@ -1,0 +1,5 @@
+pub mod TextLemmas
+pub mod SizeLemmas
+pub mod NameLemmas
+pub mod ListLemmas
+pub mod CarryLemmas

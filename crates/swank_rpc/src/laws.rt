@@ -1,0 +1,21 @@
+//! What the answers are in the table of steps, as the clauses of a function that does nothing.
+ghost use Rattle.std.specs.Prelude.{◌≡◌, map};
+ghost use Rattle.lisp_data.specs.declared.sexp.Sexp.{Sexp};
+ghost use Rattle.lisp_data.specs.declared.value.Value.{Value};
+ghost use Rattle.term_model.specs.Label.{Out};
+ghost use Rattle.step_model.specs.Kinds.{current};
+ghost use Rattle.step_model.specs.Now.{Now, tells};
+ghost use Rattle.step_model.specs.Perform.{perform};
+ghost use Rattle.step_model.specs.Requests.{asked, commanded, finished};
+ghost use Rattle.swank_rpc.specs.Acts.{act_of};
+ghost use Rattle.swank_rpc.specs.Commands as call;
+ghost use Rattle.swank_rpc.specs.Commands.{called, command, image_after};
+ghost use Rattle.swank_rpc.specs.Finishes as end;
+ghost use Rattle.swank_rpc.specs.Finishes.{ended, finish, written};
+
+/// The row of a request carries out what [`call_rpc`](crate::call_rpc) answers, in the image that it leaves; and the row of the value of
+/// its forms carries out what [`end_rpc`](crate::end_rpc) answers, once its messages are written.
+pub fn requests_are_carried_out()
+    ensures call { (n : Now) → perform n (commanded n (command (asked n))) ≡ perform (record n { image = image_after (called (asked n).form (current n) n.image) n.image }) (act_of (call.answer_of (called (asked n).form (current n) n.image))) }
+    ensures end { (n : Now) (kept : Sexp) (v : Value) → perform n (finished n v (finish (asked n) kept v)) ≡ perform (tells n (map Out (written (ended (asked n).form kept v (current n) n.image)))) (act_of (end.answer_of (ended (asked n).form kept v (current n) n.image))) }
+{}
