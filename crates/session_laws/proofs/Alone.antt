@@ -18,7 +18,7 @@ use Rattle.step_model.specs.Step.{step}
 use Rattle.session_model.specs.Running.{broke_if, bursts, is_over, lends, lends_thread, now_of, returns, settles, step_of, steps, steps_once, swept, unlent}
 use Rattle.session_model.specs.World.{Happened, Thread, World, silent, then, thread_at, with_thread}
 use Rattle.session_laws.specs.ActsAlone.{AreOf, IsAlone, NamesOnly}
-use Rattle.session_laws.proofs.Messages.{none≢some, some_is}
+use Rattle.session_laws.proofs.SomeLemmas.{none≢some, some_is}
 use Rattle.session_laws.proofs.StepFacts as facts
 use Rattle.session_laws.proofs.StepFacts.{step_of_thread}
 use Rattle.session_laws.proofs.Threads.{get-set_other}

@@ -7,7 +7,7 @@ use Rattle.rpc_messages.specs.declared.pattern.Pattern.{Pattern}
 use Rattle.rpc_messages.specs.Waiting.{accepted}
 use Rattle.step_model.specs.Now.{Mailbox}
 use Rattle.session_laws.specs.TakesInOrder.{Among}
-use Rattle.session_laws.proofs.Messages.{none≢some, some_is}
+use Rattle.session_laws.proofs.SomeLemmas.{none≢some, some_is}
 
 pub among-left : {X : Type 0} (x : X) (a b : List X) → Among x a → Among x (a ++ b)
 among-left x [] b h = absurd h

@@ -53,7 +53,7 @@ use Rattle.step_model.specs.Act as act
 use Rattle.step_model.specs.Act.{Act}
 use Rattle.step_model.specs.CurrentPackage.{binds_package, bound_package}
 use Rattle.step_model.specs.Now.{Now, around, tells}
-use Rattle.step_model.specs.Perform.{outcome_of, asking, continuing, interrupted, opens, after_leaving, answer_in, asks, assigns, assigns_or, breaks_if, brings, calls_again, condition_bound, cut_off, enters_if, exhausted_if, exits, finishes, given, gives, gives_in, goes, is_top, laid, lands, lays, lays_if, outward, package_bound, parameters_bound, passes, perform, protects, protects_value, runs_action, runs_clause, runs_handler, runs_offer, sets, sets_or, takes, took, turned, written}
+use Rattle.step_model.specs.Perform.{outcome_of, asking, continuing, interrupted, opens, after_leaving, answer_in, asks, assigns, assigns_or, breaks_if, brings, calls_again, condition_bound, cut_off, enters_if, exhausted_if, exits, finishes, given, gives, gives_in, goes, laid, lands, lays, lays_if, outward, package_bound, parameters_bound, passes, perform, protects, protects_value, runs_action, runs_clause, runs_handler, runs_offer, sets, sets_or, takes, took, turned, written}
 use Rattle.step_model.specs.Rules.{Rules, Writing, Output, NewPackage}
 use Rattle.step_model.specs.Step as the_step
 use Rattle.step_model.specs.Step.{announced_at}

@@ -23,7 +23,7 @@ use Rattle.session_model.specs.Journal.{labels}
 use Rattle.session_laws.specs.AnswersOnce.{AreAnswered, ended, id_at, id_in, id_of, is_no_answer, nothing, other, refused, swept}
 use Rattle.session_laws.specs.Seen.{Seen, Unborn, Alive, Gone}
 use Rattle.session_laws.proofs.Always.{IsLaw, always, is_note}
-use Rattle.session_laws.proofs.Messages.{none≢some, some_is}
+use Rattle.session_laws.proofs.SomeLemmas.{none≢some, some_is}
 use Rattle.session_laws.proofs.Threads.{get-append_last}
 
 -- ---- the ids in a mailbox and in a term are those of the arrivals

@@ -24,7 +24,8 @@ use Rattle.session_model.specs.World.{Thread, messages_in, thread_at}
 use Rattle.session_laws.specs.LevelsNest.{LevelsNest, descending, heard, lowered, raised, view, viewed}
 use Rattle.session_laws.specs.Seen.{Seen, Unborn, Alive, Gone, seen, state_in}
 use Rattle.session_laws.proofs.Always.{IsLaw, always, is_note}
-use Rattle.session_laws.proofs.Messages.{messages_in-append, none≢some, some_is}
+use Rattle.session_laws.proofs.SomeLemmas.{none≢some, some_is}
+use Rattle.term_model.proofs.Messages.{messages_in-append}
 use Rattle.session_laws.proofs.Threads.{found, not_live}
 
 abbrev depth_of : Seen → ℕ

@@ -25,7 +25,7 @@ use Rattle.session_laws.specs.TakesInOrder.{Among, IsLeast, TakesLeast, Waits, t
 use Rattle.session_laws.proofs.Always.{IsLaw, always}
 use Rattle.session_laws.proofs.Amongs.{all_before, among-either, among-left, among-right, among_without, first_among, first_is_accepted, first_least, without_among, without_differs}
 use Rattle.session_laws.proofs.Counts.{count-append, other, own}
-use Rattle.session_laws.proofs.Messages.{none≢some, some_is}
+use Rattle.session_laws.proofs.SomeLemmas.{none≢some, some_is}
 
 -- ---- labels that route nothing
 

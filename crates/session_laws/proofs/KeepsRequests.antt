@@ -22,7 +22,7 @@ use Rattle.session_laws.specs.Counting.{count, tally}
 use Rattle.session_laws.specs.Seen.{Seen, Unborn, Alive, Gone, seen, seen_in, state_in}
 use Rattle.session_laws.proofs.Always.{IsLaw, always}
 use Rattle.session_laws.proofs.Counts.{count-append, count_rest, other, own}
-use Rattle.session_laws.proofs.Messages.{none≢some}
+use Rattle.session_laws.proofs.SomeLemmas.{none≢some}
 use Rattle.session_laws.proofs.Threads.{found, not_live}
 
 is_serving : ℕ → Mark → Bool

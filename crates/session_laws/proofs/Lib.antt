@@ -3,7 +3,7 @@ pub mod StepFacts
 pub mod Sweeping
 pub mod Places
 pub mod Always
-pub mod Messages
+pub mod SomeLemmas
 pub mod KeepsLevels
 pub mod Counts
 pub mod KeepsCleanups

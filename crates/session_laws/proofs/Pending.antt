@@ -22,7 +22,7 @@ use Rattle.session_model.specs.Running.{after_step, bursts, interrupted, is_over
 use Rattle.session_model.specs.World.{Thread, World, fresh, repl, thread_at}
 use Rattle.session_laws.specs.BreaksPromptly.{arrived, interrupts_now, interrupts_thread, is_loan_of, loans, pending, pending_in, taken, takes_interrupt}
 use Rattle.session_laws.specs.Counting.{tally}
-use Rattle.session_laws.proofs.Messages.{none≢some, some_is}
+use Rattle.session_laws.proofs.SomeLemmas.{none≢some, some_is}
 use Rattle.session_laws.proofs.Threads.{found, get-append_last, get-append_other, get-set_other, get-set_same}
 
 -- the interrupts and the loan at a thread's number

@@ -19,7 +19,7 @@ use Rattle.session_laws.specs.AnswersOnce.{id_at, id_in, id_of, refuses, routes_
 use Rattle.session_laws.specs.Counting.{count, tally}
 use Rattle.session_laws.proofs.Always.{IsLaw, always, asks}
 use Rattle.session_laws.proofs.Counts.{count-append, other, own}
-use Rattle.session_laws.proofs.Messages.{none≢some}
+use Rattle.session_laws.proofs.SomeLemmas.{none≢some}
 use Rattle.session_laws.proofs.Threads.{get-append_last, get-append_other}
 
 -- whether a label says that request i was routed or refused

@@ -5,7 +5,7 @@ use Rattle.std.specs.Option.{option_map_or}
 use Rattle.std.proofs.lemmas.Bool.{cases_eq, cases_lt, lt-ltb}
 use Rattle.std.proofs.lemmas.Bool.Decides.{nat_tests}
 use Rattle.std.proofs.lemmas.Option.{slice_get_within}
-use Rattle.term_model.specs.Breaks.{broken, may_open}
+use Rattle.term_model.specs.Breaks.{broken, may_open, max_levels}
 use Rattle.term_model.specs.Label.{Broke}
 use Rattle.term_model.specs.Room.{levels}
 use Rattle.term_model.specs.Term.{split}
@@ -22,7 +22,7 @@ use Rattle.session_laws.specs.BreaksPromptly.{BreaksPromptly, TakesInterrupt, bu
 use Rattle.session_laws.specs.Counting.{tally}
 use Rattle.session_laws.proofs.Alone.{burst_alone, lend_alone}
 use Rattle.session_laws.proofs.Counts.{tally_small}
-use Rattle.session_laws.proofs.Messages.{none≢some, some_is}
+use Rattle.session_laws.proofs.SomeLemmas.{none≢some, some_is}
 use Rattle.session_laws.proofs.Pending.{loan, none_taken, pending_is}
 use Rattle.session_laws.proofs.Receiving.{Received, received}
 use Rattle.session_laws.proofs.Threads.{found, get-set_same, live_at}
@@ -40,10 +40,10 @@ one_less (suc n) thread lt = omega arith
 not_below : (n m : ℕ) → nat_lt n m ≡ false → m ≤ n
 not_below n m e = elim (cases_lt n m) [ inl less ↦ absurd (let f = lt-ltb n m less in let h : true ≡ false = sym f ∙ e in cc) | inr above ↦ above ]
 
-says : (n t k : ℕ) (b : Bool) → 0 < n → nat_lt k 64 ≡ b → (broke_if t n b ≡ Broke t ∷ []) ⊎ (64 ≤ k)
+says : (n t k : ℕ) (b : Bool) → 0 < n → nat_lt k max_levels ≡ b → (broke_if t n b ≡ Broke t ∷ []) ⊎ (max_levels ≤ k)
 says zero t k b lt e = absurd (omega (arith, lt))
 says (suc n) t k true lt e = inl refl
-says (suc n) t k false lt e = inr (not_below k 64 e)
+says (suc n) t k false lt e = inr (not_below k max_levels e)
 
 takes_interrupt : (w : World) (seat t : ℕ) (thread : Thread) → thread_at w t ≡ Some thread → 0 < thread.interrupts → TakesInterrupt w seat t thread
 takes_interrupt w seat t thread e lt =
@@ -55,7 +55,7 @@ takes_interrupt w seat t thread e lt =
       is_now = ap (λ (h : Happened). thread_at h.after t) is ∙ live_at (slice_set w.threads t (Some new)) t new (get-set_same w.threads t (Some new) (slice_get_within w.threads t (Some thread) at));
       broken_term = broken_term thread.interrupts thread lt;
       one_less = one_less thread.interrupts thread lt;
-      says = subst (λ (h : Happened). (h.labels ≡ Broke t ∷ []) ⊎ (64 ≤ levels (split thread.term).0)) (sym is) (says thread.interrupts t (levels (split thread.term).0) (may_open (split thread.term).0) lt refl);
+      says = subst (λ (h : Happened). (h.labels ≡ Broke t ∷ []) ⊎ (max_levels ≤ levels (split thread.term).0)) (sym is) (says thread.interrupts t (levels (split thread.term).0) (may_open (split thread.term).0) lt refl);
     }
 
 -- ---- bursts

@@ -10,7 +10,7 @@ use Rattle.rpc_messages.specs.declared.from_emacs.ThreadName.TheVariants as name
 use Rattle.session_model.specs.Arriving.{answers, arrives, interrupts, named, posted, requests, requests_by}
 use Rattle.session_model.specs.World.{Thread, World, fresh, repl, thread_at}
 use Rattle.session_laws.specs.ActsAlone.{Receives}
-use Rattle.session_laws.proofs.Messages.{none≢some, some_is}
+use Rattle.session_laws.proofs.SomeLemmas.{none≢some, some_is}
 use Rattle.session_laws.proofs.Threads.{found, get-append_last, get-append_other, get-set_other, get-set_same, live_at}
 
 -- a thread with the same term, the same next serial and the same loan

@@ -26,7 +26,7 @@ use Rattle.session_model.specs.World.{Thread, World, fresh, start, thread_at}
 use Rattle.session_laws.specs.FactsHold.{HaveRoom}
 use Rattle.session_laws.proofs.EachThread.{Each, Holds, arrives_each, becomes, of_none, set_one}
 use Rattle.session_laws.proofs.Facts.{TermIsSound, interrupted_has, waiting}
-use Rattle.session_laws.proofs.Messages.{none≢some}
+use Rattle.session_laws.proofs.SomeLemmas.{none≢some}
 use Rattle.session_laws.proofs.Threads.{found, get-set_same}
 
 abbrev TermHasRoom : Thread → Type 0

@@ -14,7 +14,7 @@ use Rattle.step_model.specs.Moves as move
 use Rattle.step_model.specs.Moves.{Path, Phase, go}
 use Rattle.step_model.specs.Now.{Mailbox}
 use Rattle.session_model.specs.Running.{swept}
-use Rattle.session_laws.proofs.Messages.{none≢some}
+use Rattle.session_laws.proofs.SomeLemmas.{none≢some}
 
 abbrev NoRequest : Mailbox → Type 0
 NoRequest mb = first_accepted pattern.Rex mb ≡ None

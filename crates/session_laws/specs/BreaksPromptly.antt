@@ -85,7 +85,7 @@ IsNotLent t w = (seat : ℕ) → IsLentTo seat (thread_at w t) → ⊥
 
 -- ---- the law
 
--- a loan takes an interrupt of this thread, if it has one: it breaks the thread's term, and says so unless 64 levels are open
+-- a loan takes an interrupt of this thread, if it has one: it breaks the thread's term, and says so unless as many levels are open as there may be
 pub record TakesInterrupt (w : World) (seat t : ℕ) (thread : Thread) : Type 0 where
   pub now : Thread
   pub is_now : thread_at (lends w seat t).after t ≡ Some now

@@ -12,7 +12,7 @@ use Rattle.session_model.specs.World.{Thread, thread_at}
 use Rattle.session_laws.specs.Seen.{state_in}
 
 -- waits and requests stand only in the top and in levels, saved exits lead outwards, running handlers are around; levels are numbered
--- from the outside and are 64 at most, and the serials of protected forms and cleanups differ and are below the next
+-- from the outside and are at most as many as there may be, and the serials of protected forms and cleanups differ and are below the next
 pub record FactsHold (rules : Rules) (image : ImageState) (j : List Entry) : Type 0 where
   pub sound : (t : ℕ) (thread : Thread) → thread_at (run rules image j) t ≡ Some thread → IsSound (split thread.term).0 (split thread.term).1
   pub ordered : (t : ℕ) (thread : Thread) → thread_at (run rules image j) t ≡ Some thread → IsOrdered (state_in thread)

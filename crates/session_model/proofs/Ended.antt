@@ -1,5 +1,5 @@
 -- Steps leave the end of the input as it was, and so do arrivals.
-use Rattle.std.proofs.Common.{◌≡◌, ℕ, ℤ, zero, suc, Bool, true, false, List, [], ◌∷◌, ◌++◌, Option, Some, None, refl, sym, ap, ◌∙◌}
+use Rattle.std.proofs.Common.{◌≡◌, ℕ, ℤ, zero, suc, Bool, true, false, Option, Some, None, refl, ◌∙◌}
 use Rattle.rpc_messages.specs.declared.from_emacs.FromEmacs.{FromEmacs}
 use Rattle.rpc_messages.specs.declared.from_emacs.FromEmacs.TheVariants as mail
 use Rattle.rpc_messages.specs.declared.from_emacs.ThreadName.{ThreadName}

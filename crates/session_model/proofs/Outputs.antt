@@ -7,8 +7,9 @@ use Rattle.rpc_messages.specs.declared.from_emacs.ThreadName.TheVariants as name
 use Rattle.rpc_messages.specs.declared.to_emacs.ToEmacs.{ToEmacs}
 use Rattle.rpc_messages.specs.declared.to_emacs.ToEmacs.TheVariants as message
 use Rattle.term_model.specs.Breaks.{may_open}
+use Rattle.term_model.proofs.Messages.{messages_in-append}
 use Rattle.term_model.specs.Term.{split}
-use Rattle.term_model.specs.Label.{Label, Routed, Took, Ended, Swept, Refused, Out, Opened, Closed, Cleanup, Broke}
+use Rattle.term_model.specs.Label.{Label, Routed, Refused, Out}
 use Rattle.step_model.specs.Image.{ImageState}
 use Rattle.step_model.specs.Now.{Now}
 use Rattle.step_model.specs.Rules.{Rules}
@@ -16,23 +17,10 @@ use Rattle.step_model.specs.Step.{step}
 use Rattle.session_model.specs.declared.event.Entry.{Entry}
 use Rattle.session_model.specs.declared.event.Event.{Event}
 use Rattle.session_model.specs.declared.event.Event.TheVariants.{Arrive, End, Lend, Burst, Drain}
-use Rattle.session_model.specs.Arriving.{named, not_found, posted, workers_after, workers_without, requests, requests_by, answers, interrupts, arrives}
+use Rattle.session_model.specs.Arriving.{named, not_found, requests, requests_by, answers, interrupts, arrives}
 use Rattle.session_model.specs.Journal.{happens, next, run_from, run, outputs}
 use Rattle.session_model.specs.Running.{broke_if, swept, lends_thread, now_of, settles, is_over, step_of, steps_once, steps, unlent, returns}
-use Rattle.session_model.specs.World.{Thread, World, Happened, start, repl, thread_at, with_thread, tells, silent, then, messages_in}
-
-messages_in-append : (a b : List Label) → messages_in (a ++ b) ≡ messages_in a ++ messages_in b
-messages_in-append [] b = refl
-messages_in-append (Out m ∷ a) b = ap (λ ms. m ∷ ms) (messages_in-append a b)
-messages_in-append (Routed t i m ∷ a) b = messages_in-append a b
-messages_in-append (Took t i p ∷ a) b = messages_in-append a b
-messages_in-append (Ended t i result ∷ a) b = messages_in-append a b
-messages_in-append (Swept t i ∷ a) b = messages_in-append a b
-messages_in-append (Refused i ∷ a) b = messages_in-append a b
-messages_in-append (Opened t n ∷ a) b = messages_in-append a b
-messages_in-append (Closed t n ∷ a) b = messages_in-append a b
-messages_in-append (Cleanup t k ∷ a) b = messages_in-append a b
-messages_in-append (Broke t ∷ a) b = messages_in-append a b
+use Rattle.session_model.specs.World.{Thread, World, Happened, start, repl, thread_at, tells, silent, then, messages_in}
 
 -- what was written so far
 abbrev written : World → List ToEmacs

@@ -1,5 +1,5 @@
 -- The journal of a piped session is legal.
-use Rattle.std.proofs.Common.{◌≡◌, ℕ, zero, suc, ◌+◌, ◌-◌, ◌<◌, ◌≤◌, Bool, true, false, List, [], ◌∷◌, ◌++◌, length, Option, Some, None, refl, sym, ap, ◌∙◌, subst, arith}
+use Rattle.std.proofs.Common.{◌≡◌, ℕ, zero, suc, ◌<◌, ◌≤◌, Bool, true, false, List, [], ◌∷◌, length, Option, Some, None, refl, sym, ap, ◌∙◌, subst, arith}
 use Rattle.std.specs.Prelude.{if◌then◌else◌, ◌&&◌, ◌||◌, not, min, find, unwrap_or, IsTrue, nat_lt, slice_get, slice_set}
 use Rattle.std.proofs.Math.Nat.{min-le_left, le-min}
 use Rattle.std.proofs.lemmas.Option.{none-some, slice_get-get_or, slice_get_within}
@@ -7,7 +7,6 @@ use Rattle.std.proofs.lemmas.Bool.{not-true}
 use Rattle.std.proofs.lemmas.Grind.{common_steps}
 use Rattle.std.specs.Option.{option_map_or}
 use Rattle.rpc_messages.specs.declared.from_emacs.FromEmacs.{FromEmacs}
-use Rattle.mailboxes.specs.Mail.{first_accepted}
 use Rattle.term_model.specs.declared.focus.Focus.{Focus}
 use Rattle.term_model.specs.declared.focus.Focus.TheVariants as focus
 use Rattle.term_model.specs.Breaks.{may_open, broken_at, broken}
@@ -16,12 +15,10 @@ use Rattle.step_model.specs.Image.{ImageState}
 use Rattle.step_model.specs.Now.{Mailbox}
 use Rattle.step_model.specs.Rules.{Rules}
 use Rattle.session_model.specs.declared.event.Entry.{Entry}
-use Rattle.session_model.specs.declared.event.Event.{Event}
-use Rattle.session_model.specs.declared.event.Event.TheVariants.{Arrive, End, Lend, Burst, Drain}
+use Rattle.session_model.specs.declared.event.Event.TheVariants.{End}
 use Rattle.session_model.specs.declared.limits.Limits.{Limits}
-use Rattle.session_model.specs.Arriving.{arrives}
 use Rattle.session_model.specs.Journal.{next}
-use Rattle.session_model.specs.Legal.{waits_in_vain, can_step, is_active, is_lent, is_lendable, is_ready, goes_on, may_step, CanMake, IsLentTo, MayArrive, AllMayArrive, max_burst, MayHappen, AreLegal, IsLegalFrom}
+use Rattle.session_model.specs.Legal.{waits_in_vain, can_step, is_active, is_lent, is_lendable, is_ready, goes_on, may_step, CanMake, IsLentTo, AllMayArrive, max_burst, MayHappen, AreLegal, IsLegalFrom}
 use Rattle.session_model.specs.Pipe.{Cursor, Turn, in_order, next_ready, burst_length, feeds, picks, runs, with_place, turns, turn, by_pipe, from_turn, schedule, opening, pipe_journal}
 use Rattle.session_model.specs.Running.{interrupted, lends_thread, steps_once}
 use Rattle.session_model.specs.World.{Thread, World, start, thread_in, thread_at}

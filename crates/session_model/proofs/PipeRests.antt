@@ -1,19 +1,17 @@
 -- Where a piped session stops for no limit, its input has ended, it has taken all messages, and it is quiet.
-use Rattle.std.proofs.Common.{◌≡◌, ◌≢◌, ℕ, zero, suc, ◌+◌, ◌-◌, ◌<◌, ◌≤◌, Bool, true, false, List, [], ◌∷◌, ◌++◌, length, Option, Some, None, refl, sym, ap, ◌∙◌, subst, arith}
-use Rattle.std.specs.Prelude.{if◌then◌else◌, ◌&&◌, ◌||◌, not, min, find, is_some, IsTrue, slice_get, unwrap_or}
+use Rattle.std.proofs.Common.{◌≡◌, ℕ, zero, suc, ◌+◌, ◌-◌, ◌<◌, Bool, true, false, List, [], ◌∷◌, ◌++◌, length, Option, Some, None, refl, sym, ap, ◌∙◌, subst, arith}
+use Rattle.std.specs.Prelude.{if◌then◌else◌, ◌&&◌, ◌||◌, not, min, find, is_some, IsTrue, slice_get}
 use Rattle.std.specs.Option.{option_map_or}
-use Rattle.std.proofs.lemmas.Bool.{not-true}
 use Rattle.std.proofs.lemmas.Option.{none-some}
 use Rattle.rpc_messages.specs.declared.from_emacs.FromEmacs.{FromEmacs}
 use Rattle.step_model.specs.Image.{ImageState}
 use Rattle.step_model.specs.Rules.{Rules}
 use Rattle.session_model.specs.declared.event.Entry.{Entry}
-use Rattle.session_model.specs.declared.event.Event.{Event}
-use Rattle.session_model.specs.declared.event.Event.TheVariants.{Arrive, End, Lend, Burst, Drain}
+use Rattle.session_model.specs.declared.event.Event.TheVariants.{End}
 use Rattle.session_model.specs.declared.limits.Limits.{Limits}
 use Rattle.session_model.specs.Journal.{arrived, arrivals, next, run, run_from, steps_of, steps_made}
 use Rattle.session_model.specs.Legal.{max_burst, is_active, is_lent, is_lendable, is_ready, is_idle, are_idle, is_quiet}
-use Rattle.session_model.specs.Pipe.{Cursor, Turn, turn_to, burst_length, numbers, in_order, next_ready, feeds, picks, runs, with_place, turns, turn, by_pipe, from_turn, schedule, opening, pipe_journal, IsServed}
+use Rattle.session_model.specs.Pipe.{Cursor, Turn, turn_to, burst_length, numbers, next_ready, feeds, picks, runs, with_place, turns, turn, by_pipe, from_turn, schedule, opening, pipe_journal, IsServed}
 use Rattle.session_model.specs.World.{Thread, World, start, thread_in, thread_at}
 use Rattle.session_model.proofs.Loans.{IsFree, NoneLent, arrives_free, lends_free, bursts_free}
 use Rattle.session_model.proofs.PipeArrivals.{TakesNext, turns_next}

@@ -1,14 +1,13 @@
 -- Where a message goes that comes from Emacs (`dispatch-event` of SLIME's `swank.lisp`): a request for `t` to a new worker, every
 -- other message to the thread that it names.
-use Rattle.std.specs.Prelude.{ℕ, ℤ, ◌+◌, ◌==◌, Bool, not, if◌then◌else◌, List, [], ◌∷◌, ◌++◌, length, filter, Option, Some, None, codes}
+use Rattle.std.specs.Prelude.{ℕ, ℤ, ◌+◌, ◌==◌, not, if◌then◌else◌, List, [], ◌∷◌, ◌++◌, length, filter, Option, Some, None, codes}
 use Rattle.std.specs.Fmt.{decimal}
-use Rattle.lisp_data.specs.declared.sexp.Sexp.{Sexp}
 use Rattle.rpc_messages.specs.declared.from_emacs.FromEmacs.{FromEmacs}
 use Rattle.rpc_messages.specs.declared.from_emacs.FromEmacs.TheVariants as mail
 use Rattle.rpc_messages.specs.declared.from_emacs.ThreadName.{ThreadName}
 use Rattle.rpc_messages.specs.declared.from_emacs.ThreadName.TheVariants as name
 use Rattle.rpc_messages.specs.declared.to_emacs.ToEmacs.TheVariants as message
-use Rattle.term_model.specs.Label.{Label, Routed, Refused, Out}
+use Rattle.term_model.specs.Label.{Routed, Refused, Out}
 use Rattle.session_model.specs.World.{Thread, World, Happened, fresh, repl, thread_at, with_thread, tells, silent}
 
 -- the worker to which a request was routed last, the thread of the REPL where no worker lives

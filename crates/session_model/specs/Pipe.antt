@@ -1,6 +1,6 @@
 -- The journal of a piped session: the one schedule by which its messages are served. Each message arrives once the threads are
 -- quiet, then rounds go through the threads in rising number, and what is written is handed out at once.
-use Rattle.std.specs.Prelude.{◌≡◌, ℕ, zero, suc, ◌+◌, ◌-◌, min, Bool, true, false, ◌&&◌, not, if◌then◌else◌, List, [], ◌∷◌, ◌++◌, length, find, IsTrue, Option, Some, None}
+use Rattle.std.specs.Prelude.{◌≡◌, ℕ, zero, suc, ◌+◌, ◌-◌, min, Bool, true, ◌&&◌, not, if◌then◌else◌, List, [], ◌∷◌, ◌++◌, length, find, IsTrue, Option, Some, None}
 use Rattle.rpc_messages.specs.declared.from_emacs.FromEmacs.{FromEmacs}
 use Rattle.step_model.specs.Image.{ImageState}
 use Rattle.step_model.specs.Rules.{Rules}

@@ -1,11 +1,11 @@
 -- What holds of the journal of a served session, whatever its seats did: its bursts are long, and its reader keeps pace.
-use Rattle.std.specs.Prelude.{ℕ, ◌+◌, ◌==◌, nat_lt, nat_le, Bool, true, false, ◌&&◌, ◌||◌, not, if◌then◌else◌, List, [], ◌∷◌, length, take, IsTrue}
+use Rattle.std.specs.Prelude.{ℕ, ◌+◌, ◌==◌, nat_lt, nat_le, Bool, true, false, ◌&&◌, ◌||◌, not, List, [], ◌∷◌, length, take, IsTrue}
 use Rattle.std.specs.List.{list_any}
 use Rattle.step_model.specs.Image.{ImageState}
 use Rattle.step_model.specs.Rules.{Rules}
 use Rattle.session_model.specs.declared.event.Entry.{Entry}
 use Rattle.session_model.specs.declared.event.Event.{Event}
-use Rattle.session_model.specs.declared.event.Event.TheVariants.{Arrive, End, Lend, Burst, Drain}
+use Rattle.session_model.specs.declared.event.Event.TheVariants.{Arrive, Burst, Drain}
 use Rattle.session_model.specs.Journal.{next}
 use Rattle.session_model.specs.Legal.{is_quiet, may_step, max_burst}
 use Rattle.session_model.specs.World.{World, start}

@@ -1,11 +1,12 @@
 -- The world of a session: its image, its threads by number, and what it has written.
-use Rattle.std.specs.Prelude.{ℕ, ◌+◌, Bool, false, List, [], ◌∷◌, ◌++◌, length, Option, Some, None, slice_get, slice_set}
+use Rattle.std.specs.Prelude.{ℕ, ◌+◌, Bool, false, List, [], ◌∷◌, ◌++◌, Option, Some, None, slice_get, slice_set}
 use Rattle.std.specs.Option.{option_map_or}
 use Rattle.lisp_data.specs.declared.value.Value.{Value}
 use Rattle.rpc_messages.specs.declared.pattern.Pattern.TheVariants as pattern
 use Rattle.rpc_messages.specs.declared.to_emacs.ToEmacs.{ToEmacs}
 use Rattle.term_model.specs.declared.focus.Focus.TheVariants as focus
-use Rattle.term_model.specs.Label.{Label, Routed, Took, Ended, Swept, Refused, Out, Opened, Closed, Cleanup, Broke}
+use Rattle.term_model.specs.Label.{Label}
+pub use Rattle.term_model.specs.Label.{messages_in}
 use Rattle.term_model.specs.Term.{Term, At}
 use Rattle.step_model.specs.Image.{ImageState}
 use Rattle.step_model.specs.Now.{Mailbox}
@@ -85,20 +86,6 @@ numbers_from t (Some thread ∷ threads) = t ∷ numbers_from (t + 1) threads
 -- the numbers of the live threads
 abbrev pub live : World → List ℕ
 live w = numbers_from 0 w.threads
-
--- the messages to Emacs among labels
-abbrev pub messages_in : List Label → List ToEmacs
-messages_in [] = []
-messages_in (Out m ∷ ls) = m ∷ messages_in ls
-messages_in (Routed t i m ∷ ls) = messages_in ls
-messages_in (Took t i p ∷ ls) = messages_in ls
-messages_in (Ended t i result ∷ ls) = messages_in ls
-messages_in (Swept t i ∷ ls) = messages_in ls
-messages_in (Refused i ∷ ls) = messages_in ls
-messages_in (Opened t n ∷ ls) = messages_in ls
-messages_in (Closed t n ∷ ls) = messages_in ls
-messages_in (Cleanup t k ∷ ls) = messages_in ls
-messages_in (Broke t ∷ ls) = messages_in ls
 
 -- what happened: the world afterwards, and what it tells
 pub record Happened : Type 0 where

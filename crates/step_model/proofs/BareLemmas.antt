@@ -7,7 +7,7 @@ use Rattle.term_model.specs.declared.frame.Frame.{Frame}
 use Rattle.term_model.specs.declared.frame.Frame.TheVariants as frame
 use Rattle.term_model.specs.declared.plain.Plain.{Plain}
 use Rattle.term_model.specs.declared.plain.Plain.TheVariants as plain
-use Rattle.term_model.specs.Breaks.{may_open}
+use Rattle.term_model.specs.Breaks.{may_open, max_levels}
 use Rattle.term_model.specs.Exit.{again, stir}
 use Rattle.term_model.specs.Room.{levels}
 use Rattle.lisp_sequences.specs.Same.{same_symbol}
@@ -44,7 +44,7 @@ levels-bares (frame.Rex i id form ∷ c) = levels-bares c
 levels-bares (frame.Ask kind tag ∷ c) = levels-bares c
 
 pub may_open-bares : (c : Context) → may_open (bares c) ≡ may_open c
-may_open-bares c = ap (λ k. nat_lt k 64) (levels-bares c)
+may_open-bares c = ap (λ k. nat_lt k max_levels) (levels-bares c)
 
 -- a changed layer that is bare the same
 abbrev pub Barely : Frame → Sight Frame → Type 0

@@ -1,6 +1,7 @@
 -- A list of moves keeps the order of marks.
 use Rattle.std.proofs.Common.{◌≡◌, ℕ, ◌+◌, ◌<◌, ◌≤◌, List, [], ◌∷◌, arith}
 use Rattle.std.proofs.lemmas.Bool.{ltb-true}
+use Rattle.term_model.specs.Breaks.{max_levels}
 use Rattle.term_model.specs.Label.{Label}
 use Rattle.step_model.specs.Marks.{Mark, Protected, Cleaning, Serving, Level, Asking, State, depth, state_of}
 use Rattle.step_model.specs.Moves as move
@@ -40,8 +41,8 @@ move_keeps t (move.Begins i id p form name thread) ms s mb e h = record { number
 move_keeps t (move.Ends i id reply) ms s mb e h = record { numbered = h.numbered; few = h.few; serials = h.serials }
 move_keeps t (move.Aborts i id) ms s mb e h = record { numbered = h.numbered; few = h.few; serials = h.serials }
 move_keeps t (move.Hears i p m) ms s mb e h = record { numbered = h.numbered; few = h.few; serials = h.serials }
-move_keeps t (move.Opens n m) ms s mb e h = let room : depth ms < 64 = ltb-true (depth ms) 64 e.1 in record { numbered = (e.0, h.numbered); few = omega arith; serials = h.serials }
-move_keeps t (move.Closes n) ms s mb e h = let few : depth ms + 1 ≤ 64 = h.few in record { numbered = h.numbered.1; few = omega arith; serials = h.serials }
+move_keeps t (move.Opens n m) ms s mb e h = let room : depth ms < max_levels = ltb-true (depth ms) max_levels e.1 in record { numbered = (e.0, h.numbered); few = omega arith; serials = h.serials }
+move_keeps t (move.Closes n) ms s mb e h = let few : depth ms + 1 ≤ max_levels = h.few in record { numbered = h.numbered.1; few = omega arith; serials = h.serials }
 move_keeps t (move.Announces n m) ms s mb e h = record { numbered = h.numbered; few = h.few; serials = h.serials }
 move_keeps t (move.Writes w) ms s mb e h = record { numbered = h.numbered; few = h.few; serials = h.serials }
 move_keeps t (move.Sweeps i id form name thread) ms s mb e h = record { numbered = h.numbered; few = h.few; serials = h.serials }

@@ -35,7 +35,7 @@ use Rattle.term_model.specs.declared.question.Ask.{Ask}
 use Rattle.term_model.specs.declared.restart.Action.{Action}
 use Rattle.term_model.specs.declared.restart.Action.TheVariants.{Give, Run}
 use Rattle.term_model.specs.declared.restart.Offer.{Offer}
-use Rattle.term_model.specs.Breaks.{may_open}
+use Rattle.term_model.specs.Breaks.{may_open, max_levels}
 use Rattle.term_model.specs.Exit.{Left, distance, dropped, leave, stir}
 use Rattle.term_model.specs.GoingIn.{body, look, nil, resumed, value_in}
 use Rattle.term_model.specs.Label.{Label}
@@ -70,7 +70,7 @@ announces image t n condition c = refl
 opens_path : {ph : Phase} (s : State) (n : Now) (condition : Condition) → may_open n.context ≡ true → At s n ph → At s (opens n condition) ph
 opens_path s n condition e p =
     go (move.Opens (levels n.context + 1) (debug_message n.image n.thread (levels n.context + 1) condition n.context)) (marks n.context) n.serial n.mailbox p
-    (ap (λ k. k + 1) (levels-depth n.context), sym (ap (λ k. nat_lt k 64) (levels-depth n.context)) ∙ e, announces n.image n.thread (levels n.context + 1) condition n.context) tt
+    (ap (λ k. k + 1) (levels-depth n.context), sym (ap (λ k. nat_lt k max_levels) (levels-depth n.context)) ∙ e, announces n.image n.thread (levels n.context + 1) condition n.context) tt
 
 exhausted_path : {ph : Phase} (s : State) (n : Now) (b : Bool) → may_open n.context ≡ b → At s n ph → At s (exhausted_if b n) ph
 exhausted_path s n true e p = opens_path s n stack_exhausted e p

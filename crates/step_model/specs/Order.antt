@@ -1,4 +1,4 @@
--- What holds of the marks of every thread: levels are numbered from 1, from the outside, there are 64 of them at most, and the serials
+-- What holds of the marks of every thread: levels are numbered from 1, from the outside, there are at most as many as there may be, and the serials
 -- of protected forms and cleanups differ and are below the next.
 use Rattle.std.specs.Prelude.{◌≡◌, ◌≢◌, ℕ, ◌+◌, ◌<◌, ◌≤◌, List, [], ◌∷◌}
 use Rattle.term_model.specs.Breaks.{max_levels}

@@ -1,5 +1,5 @@
 -- What an interrupt makes of a term: the redex is to be done after the break; an outcome stays out of the layer that is around it and
--- is brought back by the break's CONTINUE. With 64 levels open the thread leaves by the innermost visible ABORT instead.
+-- is brought back by the break's CONTINUE. With as many levels open as there may be the thread leaves by the innermost visible ABORT instead.
 use Rattle.std.specs.Prelude.{ℕ, Bool, true, false, nat_lt, ◌∷◌, Some, None}
 use Rattle.term_model.specs.declared.focus.Focus.{Focus}
 use Rattle.term_model.specs.declared.focus.Focus.TheVariants as focus
@@ -8,9 +8,9 @@ use Rattle.term_model.specs.declared.plain.Plain.TheVariants.{Before}
 use Rattle.term_model.specs.Room.{levels}
 use Rattle.term_model.specs.Term.{Term, At, Context, plug, split}
 
--- how many levels there may be
+-- how many levels there may be: none as long as entering the debugger isn't built, and 64 from then on
 abbrev pub max_levels : ℕ
-max_levels = 64
+max_levels = 0
 
 -- whether one more may be opened
 abbrev pub may_open : Context → Bool

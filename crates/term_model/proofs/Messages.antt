@@ -1,7 +1,6 @@
 -- The messages among labels.
-use Rattle.std.proofs.Common.{◌≡◌, List, [], ◌∷◌, ◌++◌, Some, None, refl, ap}
-use Rattle.term_model.specs.Label.{Label, Routed, Took, Ended, Swept, Refused, Out, Opened, Closed, Cleanup, Broke}
-use Rattle.session_model.specs.World.{messages_in}
+use Rattle.std.proofs.Common.{◌≡◌, List, [], ◌∷◌, ◌++◌, refl, ap}
+use Rattle.term_model.specs.Label.{Label, Routed, Took, Ended, Swept, Refused, Out, Opened, Closed, Cleanup, Broke, messages_in}
 
 pub messages_in-append : (a b : List Label) → messages_in (a ++ b) ≡ messages_in a ++ messages_in b
 messages_in-append [] b = refl
@@ -15,9 +14,3 @@ messages_in-append (Opened t n ∷ a) b = messages_in-append a b
 messages_in-append (Closed t n ∷ a) b = messages_in-append a b
 messages_in-append (Cleanup t k ∷ a) b = messages_in-append a b
 messages_in-append (Broke t ∷ a) b = messages_in-append a b
-
-pub none≢some : {X : Type 0} {x : X} → None ≡ Some x → ⊥
-none≢some e = absurd (cc)
-
-pub some_is : {X : Type 0} {x y : X} → Some x ≡ Some y → x ≡ y
-some_is e = cc
