@@ -22,6 +22,3 @@ mod values;
 pub use call::call_builtin;
 pub use fault::BuiltinFault;
 pub use op::{Op, name_of, op_of};
-
-#[cfg(test)]
-mod tests;

@@ -13,6 +13,3 @@ mod symbol_map;
 pub use function::{Function, Place};
 pub use image::Image;
 pub use symbol_map::SymbolMap;
-
-#[cfg(test)]
-mod tests;

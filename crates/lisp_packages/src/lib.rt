@@ -19,8 +19,6 @@ mod naming;
 mod own;
 mod packages;
 mod read;
-#[cfg(test)]
-mod tests;
 
 pub use entry::Entry;
 pub use fault::NameFault;

@@ -6,8 +6,6 @@
 
 mod lead;
 mod symbols;
-#[cfg(test)]
-mod tests;
 mod to_form;
 
 pub use syntax_trees::{

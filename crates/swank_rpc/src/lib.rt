@@ -23,6 +23,3 @@ pub use call::is_served;
 pub use calling::call_rpc;
 pub use ending::end_rpc;
 pub use laws::requests_are_carried_out;
-
-#[cfg(test)]
-mod tests;

@@ -8,8 +8,6 @@
 mod ast;
 mod copying;
 mod name;
-#[cfg(test)]
-mod tests;
 
 pub use ast::{
     Assignment, Ast, Binding, Clause, Designator, Handler, HandlerClause, Init, Parameters,

@@ -1,6 +1,6 @@
 mod each_function;
 
-use crate::{BuiltinFault, call_builtin, op_of};
+use lisp_builtins::{BuiltinFault, call_builtin, op_of};
 use lisp_data::{Boxed, NoMemory, Rows, Sexp, Symbol, Text, Value};
 use sexp_printer::print_user;
 use sexp_reader::read_form;

@@ -1,5 +1,5 @@
-use crate::{NameFault, Packages};
 use lisp_data::{NoMemory, Rows, Sexp, Text, Value};
+use lisp_packages::{NameFault, Packages};
 use std::alloc::Global;
 use std::test::*;
 

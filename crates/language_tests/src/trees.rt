@@ -1,7 +1,7 @@
-use crate::{Ast, Binding, Init, Name};
 use lisp_data::{NoMemory, Rows, Symbol, Text, Value};
 use std::alloc::Global;
 use std::test::Fail;
+use syntax_trees::{Ast, Binding, Init, Name};
 
 /// `(let (x) 7)`.
 fn tree(alloc: Global) -> Result<Ast, NoMemory> {

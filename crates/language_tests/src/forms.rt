@@ -1,5 +1,5 @@
-use crate::{Ast, Name, unparse};
 use lisp_data::{Boxed, NoMemory, Rows, Symbol, Text, Value};
+use lisp_syntax::{Ast, Name, unparse};
 use std::alloc::Global;
 use std::test::Fail;
 

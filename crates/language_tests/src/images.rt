@@ -1,8 +1,8 @@
 ghost use Rattle.std.specs.Prelude.{IfOk};
 ghost use Rattle.lisp_image.specs.Image.{HasSmallOffset, IsFunctionName};
 
-use crate::{Function, Image};
 use lisp_data::{NoMemory, Rows, Symbol, Text, Value};
+use lisp_image::{Function, Image};
 use std::alloc::Global;
 use std::test::Fail;
 

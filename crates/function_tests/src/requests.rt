@@ -1,4 +1,3 @@
-use crate::{Answer, call_rpc, end_rpc, is_served};
 use lisp_data::{NoMemory, Rows, Sexp, Text, Value};
 use lisp_image::Image;
 use rpc_messages::ToEmacs;
@@ -6,6 +5,7 @@ use sexp_printer::print_wire;
 use sexp_reader::{Placed, read_form};
 use std::alloc::Global;
 use std::test::Fail;
+use swank_rpc::{Answer, call_rpc, end_rpc, is_served};
 
 const INFO: &str =
     "(:pid 0 :style :spawn :encoding (:coding-systems (\"utf-8-unix\")) :lisp-implementation (:type \"Profile\" :name \"profile\" :version \"1\") :machine (:instance \"none\") :features nil :modules nil :package (:name \"COMMON-LISP-USER\" :prompt \"CL-USER\") :version \"2.28\")";
