@@ -1,6 +1,6 @@
 -- Mail in order of arrival, and what is taken out of it.
-use Rattle.std.proofs.Common.{◌≡◌, ℕ, suc, ◌+◌, ◌<◌, ◌≤◌, Bool, true, false, cond, List, [], ◌∷◌, ◌++◌, length, take, drop, refl, sym, ap, ◌∙◌, arith}
-use Rattle.std.specs.Prelude.{not, remove, position, slice_get, nat_lt, ◌⊎◌, Option, Some, None, IfSome, IsTrue}
+use Rattle.std.proofs.Common.{◌≡◌, ℕ, zero, suc, ◌+◌, ◌<◌, ◌≤◌, Bool, true, false, cond, List, [], ◌∷◌, ◌++◌, length, take, drop, refl, sym, ap, ◌∙◌, arith}
+use Rattle.std.specs.Prelude.{not, is_some, remove, position, slice_get, nat_lt, ◌⊎◌, Option, Some, None, IfSome, IsTrue}
 use Rattle.std.specs.List.{position_or_len}
 use Rattle.std.proofs.Common.{inl, inr}
 use Rattle.std.proofs.lemmas.Bool.{cases_lt, lt-ltb}
@@ -119,3 +119,16 @@ first-least_at p entry mail false (Some t) e after later = (λ fact. absurd (no_
 pub first-least : (p : Pattern) (mail : List (ℕ × FromEmacs)) → AreInOrder mail → IfSome (first_accepted p mail) (λ taken. NoneBefore p taken.0 mail)
 first-least p [] ordered = tt
 first-least p (entry ∷ mail) ordered = first-least_at p entry mail (accepted p entry.1) (first_accepted p mail) refl ordered.0 (first-least p mail ordered.1)
+
+-- ---- whether one is accepted
+
+is_some_within : {X : Type 0} (xs : List X) (i : ℕ) → i < length xs → is_some (slice_get xs i) ≡ true
+is_some_within [] i h = absurd (omega (arith, h))
+is_some_within (x ∷ xs) zero h = refl
+is_some_within (x ∷ xs) (suc i) h = is_some_within xs i (omega (arith, h))
+
+-- a message is accepted where one has a place
+pub is_accepted : (p : Pattern) (mail : List (ℕ × FromEmacs)) (o : Option ℕ) → position (λ entry. accepted p entry.1) mail ≡ o → IfSome o (λ at. at < length mail)
+    → is_some o ≡ is_some (first_accepted p mail)
+is_accepted p mail None e within = ap is_some (sym (none-found p mail e))
+is_accepted p mail (Some at) e within = sym (ap is_some (some-found p mail at e) ∙ is_some_within mail at within)

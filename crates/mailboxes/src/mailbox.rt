@@ -1,4 +1,4 @@
-ghost use Rattle.std.specs.Prelude.{◌≡◌, [], ◌∷◌, ◌++◌, ◌<◌, IfSome, OnErr, OnOk, length, position};
+ghost use Rattle.std.specs.Prelude.{◌≡◌, [], ◌∷◌, ◌++◌, ◌<◌, IfSome, OnErr, OnOk, is_some, length, position};
 ghost use Rattle.rpc_messages.specs.Waiting.{accepted};
 ghost use Rattle.mailboxes.specs.Mail.{first_accepted, without_accepted, AllBefore, IsMail, NoneBefore};
 
@@ -67,6 +67,20 @@ impl Mailbox {
     {
         self.entries.push((at, m))?;
         Ok(())
+    }
+
+    /// Whether there is a message that the pattern accepts.
+    pub fn accepts(&self, p: &Pattern) -> bool
+        ensures { result ≡ is_some (first_accepted p.now self.now) }
+    {
+        first_place(self.entries.as_slice(), p).is_some()
+    }
+
+    /// All messages, each with its place.
+    pub fn into_entries(self) -> Rows<(u64, FromEmacs)>
+        ensures { result ≡ self }
+    {
+        self.entries
     }
 
     /// Takes the first message that the pattern accepts, with its place. None where the mailbox has none; the others keep

@@ -66,3 +66,22 @@ fn the_first_accepted_message_is_taken(rt: HostRuntime) -> Result<(), Fail> {
     }
     Ok(())
 }
+
+#[test]
+fn a_message_is_accepted_until_it_is_taken(rt: HostRuntime) -> Result<(), Fail> {
+    let alloc = rt.alloc();
+    let mut mailbox = Mailbox::new(alloc);
+    mailbox.post(
+        4,
+        FromEmacs::Return {
+            thread: ThreadName::Id(1),
+            tag: 7,
+            value: Sexp::Int(2),
+        },
+    )?;
+    let pattern = Pattern::ValueFor(7);
+    let before = mailbox.accepts(&pattern) && !mailbox.accepts(&Pattern::Rex);
+    let entries = mailbox.into_entries();
+    assert!(rt; before && entries.len() == 1);
+    Ok(())
+}

@@ -1,0 +1,4 @@
+pub mod SimpleLemmas
+pub mod GoingSimple
+pub mod ActsSimple
+pub mod StepSimple

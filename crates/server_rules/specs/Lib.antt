@@ -1,0 +1,5 @@
+pub mod Rules
+pub mod Simple
+pub mod Beside
+pub mod Leaving
+pub mod Going
