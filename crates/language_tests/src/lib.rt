@@ -9,4 +9,8 @@ mod images;
 #[cfg(test)]
 mod packages;
 #[cfg(test)]
+mod parsing;
+#[cfg(test)]
+mod symbols;
+#[cfg(test)]
 mod trees;

@@ -7,10 +7,9 @@ ghost use Rattle.syntax_rows.specs.declared.operator.Operator.TheVariants as op;
 ghost use Rattle.syntax_rows.specs.Rows.{operation, optional, type_form, report_forms, marked, rest_marked, parameter_forms, designator_form, option_forms};
 ghost use Rattle.syntax_trees.specs.Symbols.{cl, keyword, value_of_symbol};
 
-use crate::symbols::{cl, keyword, value_of_symbol};
 use lisp_data::{NoMemory, Rows, Symbol, Text, TypeId, Value};
 use std::alloc::Global;
-use syntax_rows::Operator;
+use syntax_rows::{Operator, cl, keyword, value_of_symbol};
 use syntax_trees::{Designator, Name, Parameters};
 
 /// The items of a form so far: the operator's symbol.

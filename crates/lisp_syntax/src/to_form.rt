@@ -8,10 +8,9 @@ ghost use Rattle.syntax_trees.specs.declared.ast.Ast as tree_of;
 ghost use Rattle.syntax_rows.specs.Trees.{unparsed, unparsed_clause, unparsed_binding, unparsed_assignment, unparsed_handler, unparsed_handler_clause, unparsed_restart_clause};
 
 use crate::lead;
-use crate::symbols::value_of_symbol;
 use lisp_data::{Boxed, NoMemory, Rows, Symbol, Text, Value};
 use std::alloc::Global;
-use syntax_rows::Operator;
+use syntax_rows::{Operator, value_of_symbol};
 use syntax_trees::{Assignment, Ast, Binding, Clause, Handler, HandlerClause, Init, RestartClause};
 
 /// The form that a tree stands for.

@@ -1,5 +1,8 @@
 ghost use Rattle.std.specs.Prelude.{◌≡◌};
-ghost use Rattle.syntax_rows.specs.Operators.{name_of};
+ghost use Rattle.syntax_rows.specs.Operators.{name_of, operator_named, operator_of};
+
+use crate::symbols::is_of_common_lisp;
+use lisp_data::Symbol;
 
 /// The symbols of COMMON-LISP that head a form of a shape of its own. Every other symbol heads a call.
 #[derive(Clone, Copy)]
@@ -111,4 +114,26 @@ impl Operator {
             Operator::Defpackage => "DEFPACKAGE",
         }
     }
+}
+
+/// The operator that the symbol is, None where it is none.
+#[tactic(auto, unfolding(crate::specs::Operators::operator_of))]
+pub fn operator_of(symbol: &Symbol) -> Option<Operator>
+    ensures { result ≡ operator_of symbol.now }
+{
+    if is_of_common_lisp(symbol) {
+        operator_named(symbol.name.as_str())
+    } else {
+        None
+    }
+}
+
+#[tactic(auto, unfolding(crate::specs::Operators::operator_named))]
+fn operator_named(name: &str) -> Option<Operator>
+    ensures { result ≡ operator_named name.now }
+{
+    OPERATORS
+        .iter()
+        .copied()
+        .find(|operator| operator.name() == name)
 }

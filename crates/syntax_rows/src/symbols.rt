@@ -1,5 +1,5 @@
 ghost use Rattle.std.specs.Prelude.{◌≡◌, codes, IfOk};
-ghost use Rattle.syntax_trees.specs.Symbols.{is_of_common_lisp, is_nil, names, value_of_symbol, cl, keyword};
+ghost use Rattle.syntax_trees.specs.Symbols.{is_of_common_lisp, is_keyword, is_nil, is_variable, is_readable, names, value_of_symbol, cl, keyword};
 
 use lisp_data::{NoMemory, Rows, Symbol, Text, Value};
 use std::alloc::Global;
@@ -28,6 +28,26 @@ pub fn is_nil(symbol: &Symbol) -> bool
     ensures { result ≡ is_nil symbol.now }
 {
     names(symbol, "NIL")
+}
+
+pub fn is_keyword(symbol: &Symbol) -> bool
+    ensures { result ≡ is_keyword symbol.now }
+{
+    symbol.home.as_str() == KEYWORD
+}
+
+/// Whether a form may bind or declare the symbol.
+pub fn is_variable(symbol: &Symbol) -> bool
+    ensures { result ≡ is_variable symbol.now }
+{
+    !is_keyword(symbol) && !is_of_common_lisp(symbol)
+}
+
+/// Whether a form may read and assign the symbol.
+pub fn is_readable(symbol: &Symbol) -> bool
+    ensures { result ≡ is_readable symbol.now }
+{
+    is_variable(symbol) || names(symbol, "*PACKAGE*")
 }
 
 /// A symbol of COMMON-LISP.

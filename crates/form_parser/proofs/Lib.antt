@@ -1,0 +1,4 @@
+pub mod AssignmentLemmas
+pub mod LoopLemmas
+pub mod Loops
+pub mod RowLemmas

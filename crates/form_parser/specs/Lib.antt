@@ -1,0 +1,4 @@
+pub mod Given
+pub mod Lent
+pub mod Items
+pub mod RowTrees
