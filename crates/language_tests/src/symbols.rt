@@ -12,7 +12,7 @@ fn is_empty_list(value: Value) -> bool {
 }
 
 fn nil(alloc: Global) -> Result<Value, NoMemory> {
-    Ok(value_of_symbol(alloc, cl(alloc, "NIL")?))
+    value_of_symbol(alloc, &cl(alloc, "NIL")?)
 }
 
 #[test]

@@ -56,7 +56,8 @@ before_plain : (ps : List Placed) (origin : Option Origin) → ArePlain (before_
 before_plain [] origin = tt
 before_plain (p ∷ ps) origin = (refl, tt)
 
-placed_simple : (a : Ast) (x : Ast-F Ast) (origin : Option Origin) (at : ℕ) → IsSimpleFound (placed_found a x origin at)
+-- the form of a text, with its place where it defines a function
+pub placed_simple : (a : Ast) (x : Ast-F Ast) (origin : Option Origin) (at : ℕ) → IsSimpleFound (placed_found a x origin at)
 placed_simple a (Ast-F.Defun g ps es) (Some origin) at = refl
 placed_simple a x origin at = look_simple a
 

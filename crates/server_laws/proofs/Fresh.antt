@@ -1,0 +1,27 @@
+-- The packages of a fresh image have short names.
+use Rattle.std.proofs.Common.{◌≡◌, List, [], ◌∷◌, sym, subst, arith}
+use Rattle.std.specs.Prelude.{codes}
+use Rattle.lisp_image.specs.Image.{fresh_image}
+use Rattle.lisp_packages.specs.declared.entry.Entry.{Entry}
+use Rattle.lisp_packages.specs.declared.lisp_package.Package.{Package}
+use Rattle.lisp_packages.specs.Fresh.{standard_packages, standard_packages-is}
+use Rattle.lisp_packages.specs.Naming.{common_lisp, keyword}
+use Rattle.server_laws.specs.Small.{AreShort, HasShortNames}
+
+-- the three packages, with any symbols of COMMON-LISP
+abbrev three : List Entry → List Package
+three own =
+    (record { name = common_lisp; nicknames = codes "CL" ∷ []; uses = []; own = own })
+    ∷ (record { name = codes "COMMON-LISP-USER"; nicknames = codes "CL-USER" ∷ []; uses = 0 ∷ []; own = [] })
+    ∷ (record { name = keyword; nicknames = []; uses = []; own = [] })
+    ∷ []
+
+three_short : (own : List Entry) → AreShort (three own)
+three_short own =
+    (record { name = omega arith; prompt = omega arith }, (record { name = omega arith; prompt = omega arith }, (record { name = omega arith; prompt = omega arith }, tt)))
+
+those_short : {own : List Entry} → standard_packages ≡ three own → AreShort standard_packages
+those_short {own = own} e = subst AreShort (sym e) (three_short own)
+
+pub fresh_short : HasShortNames (fresh_image standard_packages)
+fresh_short = those_short standard_packages-is

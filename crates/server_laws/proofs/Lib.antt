@@ -1,0 +1,10 @@
+pub mod Lengths
+pub mod Messages
+pub mod Names
+pub mod Replies
+pub mod Terms
+pub mod Steps
+pub mod Workers
+pub mod Sessions
+pub mod Fresh
+pub mod Payloads
