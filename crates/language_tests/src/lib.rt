@@ -9,8 +9,4 @@ mod images;
 #[cfg(test)]
 mod packages;
 #[cfg(test)]
-mod parsing;
-#[cfg(test)]
-mod symbols;
-#[cfg(test)]
 mod trees;

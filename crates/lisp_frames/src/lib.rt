@@ -17,6 +17,3 @@ pub use term_model::{
     Action, Ask, Bound, Bring, Cluster, Focus, Found, Frame, HandlerFunction, Offer, Origin,
     Outcome, Plain, Restart, Saved,
 };
-
-#[cfg(test)]
-mod tests;
