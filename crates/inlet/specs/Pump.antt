@@ -1,5 +1,5 @@
 -- What one call of `pump` does to a stream.
-use Rattle.std.specs.Prelude.{◌≡◌, ◌≢◌, ℕ, ◌+◌, ◌<◌, Bool, true, false, List, [], ◌++◌, length, Option}
+use Rattle.std.specs.Prelude.{◌≡◌, ◌≢◌, ℕ, ◌+◌, ◌<◌, Bool, true, false, List, [], ◌++◌, length, Option, Some, None}
 use Rattle.outside_traits.specs.Told.{BothTold}
 use Rattle.packet_framing.specs.Packets.{IsBad, IsUnfinished}
 use Rattle.inlet.specs.Messages.{Takes}
@@ -39,3 +39,8 @@ met_end _ = false
 abbrev pub IsMessage : Pumped → Type 0
 IsMessage (Message _) = Unit {0}
 IsMessage _ = ⊥
+
+-- where it is told what is left, that is nothing
+abbrev pub NothingLeft : Option (List ℕ) → Type 0
+NothingLeft None = Unit {0}
+NothingLeft (Some left) = left ≡ []

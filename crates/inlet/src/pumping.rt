@@ -1,5 +1,5 @@
-ghost use Rattle.std.specs.Prelude.{◌≡◌, ◌+◌, ◌<◌, ◌≤◌, ◌++◌, ◌⊎◌, None, length, false};
-ghost use Rattle.inlet.specs.Pump.{met_end, IsMessage, Pumps};
+ghost use Rattle.std.specs.Prelude.{◌≡◌, ◌+◌, ◌<◌, ◌≤◌, ◌++◌, ◌⊎◌, None, length, false, true};
+ghost use Rattle.inlet.specs.Pump.{met_end, IsMessage, NothingLeft, Pumps};
 ghost use Rattle.inlet.specs.Reads.{is_end, AnswersKept, Feeds};
 ghost use Rattle.outside_traits.specs.Faults.{Rose};
 ghost use Rattle.packet_framing.specs.Packets.{first_packet, IsUnfinished};
@@ -75,6 +75,7 @@ fn feed<S: Source>(source: &mut S, decoder: &mut Decoder, taken: &mut u64) -> Fe
     ensures later { S.faults source.old ≤ S.faults source.new }
     ensures fault { result ≡ Fed.Fault → Rose (S.faults source.old) (S.faults source.new) }
     ensures within { taken.new ≤ INPUT_LIMIT }
+    ensures empty { result ≡ Fed.End → NothingLeft (S.left source.new) }
 {
     let mut buf = [0; MAX_READ];
     let wanted = (INPUT_LIMIT - *taken).min(MAX_READ as u64) as usize;
@@ -107,6 +108,8 @@ fn read_on<S: Source>(
     ensures full { taken.old ≡ INPUT_LIMIT → source.new ≡ source.old }
     ensures limit { taken.old ≡ INPUT_LIMIT → result ≡ Pumped.InputLimit }
     ensures ended { S.ended source.old ≡ false → S.ended source.new ≡ met_end result }
+    ensures met { taken.old < INPUT_LIMIT → S.ended source.new ≡ met_end result }
+    ensures empty { met_end result ≡ true → NothingLeft (S.left source.new) }
     ensures few { IsMessage result → length decoder.new ≤ 4095 }
     ensures bounded { length decoder.new ≤ 16781316 }
 {
@@ -154,8 +157,10 @@ pub fn pump<S: Source>(
     ensures full { taken.old ≡ INPUT_LIMIT → source.new ≡ source.old }
     ensures limit { IsUnfinished decoder.old → taken.old ≡ INPUT_LIMIT → result ≡ Pumped.InputLimit }
 
-    // The end of input was met exactly where the answer says so.
+    // The end of input was met exactly where the answer says so, and then nothing is left.
     ensures ended { S.ended source.old ≡ false → S.ended source.new ≡ met_end result }
+    ensures met { IsUnfinished decoder.old → taken.old < INPUT_LIMIT → S.ended source.new ≡ met_end result }
+    ensures empty { met_end result ≡ true → NothingLeft (S.left source.new) }
 
     // Few octets are kept behind a message, and never more than a packet and a read can leave.
     ensures few { ((length decoder.old ≤ 4095) ⊎ (first_packet decoder.old ≡ None)) → IsMessage result → length decoder.new ≤ 4095 }

@@ -1,7 +1,7 @@
-mod Outputs
-mod Prefixes
+pub mod Outputs
+pub mod Prefixes
 mod PipeArrivals
-mod Ended
-mod PipeLegal
-mod Loans
-mod PipeRests
+pub mod Ended
+pub mod PipeLegal
+pub mod Loans
+pub mod PipeRests

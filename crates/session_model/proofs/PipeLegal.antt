@@ -35,7 +35,7 @@ module _ {X : Type 0} (p : X → Bool) where
   passes_if false x y rest e found later = later found
 
   -- what is found passes the test
-  find_passes : (xs : List X) (y : X) → find p xs ≡ Some y → IsTrue (p y)
+  pub find_passes : (xs : List X) (y : X) → find p xs ≡ Some y → IsTrue (p y)
   find_passes (x ∷ xs) y e = passes_if (p x) x y (find p xs) refl e (find_passes xs y)
   find_passes [] y e = absurd (none-some y e)
 
@@ -107,7 +107,7 @@ most_if : (b : Bool) (n most : ℕ) → n ≤ most → (if b then suc n else 0) 
 most_if true n most h = omega arith
 most_if false n most h = omega arith
 
-burst_most : (rules : Rules) (most t : ℕ) (w : World) → burst_length rules most t w ≤ most
+pub burst_most : (rules : Rules) (most t : ℕ) (w : World) → burst_length rules most t w ≤ most
 burst_most rules zero t w = omega arith
 burst_most rules (suc most) t w = most_if (may_step w t) (burst_length rules most t (steps_once rules w t).after) most (burst_most rules most t (steps_once rules w t).after)
 

@@ -71,7 +71,7 @@ idle_from w t (x ∷ xs) closed at free none =
     (idle_from w (t + 1) xs closed (λ i. at (suc i) ∙ ap (slice_get w.threads) (shifted t i)) free (none_passes_rest (is_ready w) t (numbers (length xs) (t + 1)) none))
 
 -- a session in which nobody is lent or ready is quiet
-quiet_when : (w : World) → w.closed ≡ false → NoneLent None w.threads → (reached : ℕ) → next_ready w reached ≡ None → IsTrue (is_quiet w)
+pub quiet_when : (w : World) → w.closed ≡ false → NoneLent None w.threads → (reached : ℕ) → next_ready w reached ≡ None → IsTrue (is_quiet w)
 quiet_when w closed free reached none =
     idle_from w 0 w.threads closed (λ i. ap (slice_get w.threads) (grind arith)) free
     (none_passes_behind (is_ready w) (numbers (length w.threads - (reached + 1)) (reached + 1)) (numbers (length w.threads) 0) none)

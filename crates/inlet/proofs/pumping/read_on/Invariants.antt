@@ -1,4 +1,4 @@
-use Rattle.std.proofs.Common.{◌≡◌, ◌-◌, ◌≤◌, false}
+use Rattle.std.proofs.Common.{◌≡◌, ◌-◌, ◌≤◌, ◌⊎◌, false}
 use Rattle.inlet.specs.Pump.{input_limit}
 use Rattle.inlet.proofs.PumpLemmas.{Going}
 use Rattle.inlet.proofs.pumping.read_on.Given as goal
@@ -9,6 +9,7 @@ invariant-loop-taken g l = record {
   later : g.S.Source.faults l.fn.source ≤ g.S.Source.faults l.source;
   within : l.taken ≤ input_limit;
   open' : g.S.Source.ended l.fn.source ≡ false → g.S.Source.ended l.source ≡ false;
+  met : (l.taken ≡ l.fn.taken) ⊎ (g.S.Source.ended l.source ≡ false);
   full : l.fn.taken ≡ input_limit → l.source ≡ l.fn.source;
 }
 

@@ -1,0 +1,101 @@
+ghost use Rattle.std.specs.Prelude.{◌≡◌, IfOk, OnOk};
+ghost use Rattle.lisp_data.specs.declared.sexp.Sexp.TheViews.{out-Sexp};
+ghost use Rattle.lisp_frames.specs.Stack.{with_redex, within};
+ghost use Rattle.mailboxes.specs.Mail.{first_accepted, without_accepted};
+ghost use Rattle.step_model.specs.Perform.{answer_in};
+ghost use Rattle.term_model.specs.declared.focus.Focus.TheVariants as focus;
+ghost use Rattle.term_model.specs.declared.found.Found.TheVariants as found;
+ghost use Rattle.lisp_step.specs.Rows.{laid, received, truth, waited};
+
+use crate::bound_package::{bound_package, package_markers};
+use crate::going::{give_value, lay};
+use lisp_data::{NoMemory, Rows, Sexp, Symbol, Text, Value};
+use lisp_frames::Stack;
+use lisp_image::Image;
+use mailboxes::Mailbox;
+use rpc_messages::{FromEmacs, Pattern};
+use std::alloc::Global;
+use term_model::{Focus, Found, Frame, Plain};
+
+/// Begins to serve a request: its function is the redex, inside its layer and the binding of its package.
+fn begin(
+    alloc: Global,
+    request: Frame,
+    markers: Rows<Plain>,
+    stack: &mut Stack,
+) -> Result<(), NoMemory>
+    ensures { OnOk result (stack.new ≡ laid (within request stack.old) markers (found.Here focus.Rpc)) }
+{
+    stack.push_over(request)?;
+    lay(alloc, stack, markers, Found::Here(Focus::Rpc))
+}
+
+/// T or NIL.
+fn truth(alloc: Global, holds: bool) -> Result<Value, NoMemory>
+    ensures { IfOk result (λ value. value ≡ truth holds) }
+{
+    if !holds {
+        return Ok(Value::List(Rows::new(alloc)));
+    }
+    Ok(Value::Sym(Symbol {
+        home: Text::of(alloc, "COMMON-LISP")?,
+        name: Text::of(alloc, "T")?,
+    }))
+}
+
+/// The value that the answer to a question gives.
+fn answer(alloc: Global, form: Sexp) -> Result<Value, NoMemory>
+    ensures { IfOk result (λ value. value ≡ answer_in (out-Sexp form)) }
+{
+    match form {
+        Sexp::Str(text) => Ok(Value::Str(text)),
+        Sexp::Int(number) => Ok(Value::Int(number)),
+        Sexp::List(items) => truth(alloc, !items.is_empty()),
+        Sexp::Sym(_) => truth(alloc, true),
+    }
+}
+
+/// A message that was taken: a request is served, and an answer gives its value.
+fn receive(
+    alloc: Global,
+    at: u64,
+    mail: FromEmacs,
+    stack: &mut Stack,
+    image: &Image,
+) -> Result<(), NoMemory>
+    ensures { OnOk result (stack.new ≡ received stack.old image.now at mail) }
+{
+    match mail {
+        FromEmacs::Rex {
+            form,
+            package,
+            id,
+            ..
+        } => {
+            let value = bound_package(alloc, image, package)?;
+            let markers = package_markers(alloc, &form, value)?;
+            begin(alloc, Frame::Rex { at, id, form }, markers, stack)
+        }
+        FromEmacs::ReturnString { text, .. } => give_value(alloc, stack, Value::Str(text)),
+        FromEmacs::Return { value, .. } => give_value(alloc, stack, answer(alloc, value)?),
+        FromEmacs::Interrupt { .. } | FromEmacs::Unreadable { .. } => Ok(()),
+    }
+}
+
+/// Waits for what the pattern accepts: the first such message is taken, and without one nothing changes.
+pub(crate) fn wait(
+    alloc: Global,
+    pattern: Pattern,
+    stack: &mut Stack,
+    image: &Image,
+    mailbox: &mut Mailbox,
+) -> Result<(), NoMemory>
+    ensures stack { OnOk result (stack.new ≡ waited (with_redex (focus.Wait pattern) stack.old) image.now (first_accepted pattern mailbox.old)) }
+    ensures mailbox { mailbox.new ≡ without_accepted pattern mailbox.old }
+{
+    stack.set_focus(Focus::Wait(pattern));
+    match mailbox.take_first(&pattern) {
+        Some((at, mail)) => receive(alloc, at, mail, stack, image),
+        None => Ok(()),
+    }
+}
