@@ -1,0 +1,10 @@
+pub mod NumberLemmas
+pub mod ThreadLemmas
+pub mod TableLemmas
+pub mod JournalLemmas
+pub mod RunLemmas
+pub mod PlacedLemmas
+pub mod WorkerLemmas
+pub mod BurstLemmas
+pub mod TiesLemmas
+pub mod LegalLemmas

@@ -1,0 +1,68 @@
+use Rattle.std.proofs.Common.{◌≡◌, ◌<◌, ◌^◌, None, Some, false, true, sym, ap, ◌∙◌, subst}
+use Rattle.std.specs.Prelude.{is_some, IfSome, slice_set}
+use Rattle.server_rules.specs.Simple.{are_simple}
+use Rattle.session_model.specs.World.{Thread}
+use Rattle.lisp_step.specs.declared.machine.Machine.{Machine}
+use Rattle.swank_core.specs.Threads.{thread_of}
+use Rattle.swank_core.proofs.TableLemmas.{changed_none, kept_ascending, none_live, stands, stands_changed, stands_live, stands_set, stands_simple}
+use Rattle.mailboxes.specs.Mail.{AllBefore}
+use Rattle.session_model.specs.Arriving.{posted}
+use Rattle.swank_core.proofs.threads.Threads.post.Goals as goal
+
+pub find-requires : goal.find-requires
+find-requires c = record { ascending = kept_ascending c.self.inside.next c.self.inside.records.items c.deref.result.now c.self.invariant c.deref.ensures.value }
+
+pub post-requires-clause-later : goal.post-requires-clause-later
+post-requires-clause-later c =
+    let i = c.self.inside in
+    let was = c.index_mut.result.now in
+    let s = stands i.records.items c.deref.result.now c.in-Some.place c.args.t was c.deref.ensures.value c.in-Some.ensures.at c.index_mut.ensures.value in
+    subst (λ o. IfSome o (λ (thread : Thread). AllBefore c.args.at thread.mailbox)) (stands_live i.next i.records.items c.in-Some.place c.args.t was c.self.invariant s c.args.self.now c.self.view_is) c.requires.later
+
+pub invariant_of-self : goal.invariant_of-self
+invariant_of-self c =
+    let i = c.self.inside in
+    let was = c.index_mut.result.now in
+    let s = stands i.records.items c.deref.result.now c.in-Some.place c.args.t was c.deref.ensures.value c.in-Some.ensures.at c.index_mut.ensures.value in
+    let simple = stands_simple i.next i.records.items c.in-Some.place c.args.t was c.self.invariant s in
+    let number = ap (λ (m : Machine). m.thread) c.in_err-post-in-Some.ensures.machine in
+    let still = ap (λ (m : Machine). are_simple m.stack.context) c.in_err-post-in-Some.ensures.machine ∙ simple in
+    (stands_set i.next i.records.items c.in-Some.place c.args.t was c.self.invariant s c.post.new.self number still).kept
+
+pub invariant_of-self-in-Some : goal.invariant_of-self-in-Some
+invariant_of-self-in-Some c =
+    let i = c.self.inside in
+    let was = c.index_mut.result.now in
+    let s = stands i.records.items c.deref.result.now c.in-Some.place c.args.t was c.deref.ensures.value c.in-Some.ensures.at c.index_mut.ensures.value in
+    let simple = stands_simple i.next i.records.items c.in-Some.place c.args.t was c.self.invariant s in
+    let number = ap (λ (m : Machine). m.thread) c.in_ok-post-in-Some.ensures.machine in
+    let still = ap (λ (m : Machine). are_simple m.stack.context) c.in_ok-post-in-Some.ensures.machine ∙ simple in
+    (stands_set i.next i.records.items c.in-Some.place c.args.t was c.self.invariant s c.post.new.self number still).kept
+
+pub returns-in-None-clause-live : goal.returns-in-None-clause-live
+returns-in-None-clause-live c =
+    let i = c.self.inside in
+    sym (ap is_some (none_live i.next i.records.items c.deref.result.now c.args.t c.args.self.now c.self.invariant c.self.view_is c.deref.ensures.value c.in-None.ensures.none))
+
+pub returns-in-None-clause-posted : goal.returns-in-None-clause-posted
+returns-in-None-clause-posted c =
+    let i = c.self.inside in
+    sym (changed_none (λ (thread : Thread). posted thread c.args.at c.args.m.now) c.args.t c.args.self.now (none_live i.next i.records.items c.deref.result.now c.args.t c.args.self.now c.self.invariant c.self.view_is c.deref.ensures.value c.in-None.ensures.none))
+
+pub returns-in_ok-post-in-Some-clause-live : goal.returns-in_ok-post-in-Some-clause-live
+returns-in_ok-post-in-Some-clause-live c =
+    let i = c.self.inside in
+    let was = c.index_mut.result.now in
+    let s = stands i.records.items c.deref.result.now c.in-Some.place c.args.t was c.deref.ensures.value c.in-Some.ensures.at c.index_mut.ensures.value in
+    sym (ap is_some (stands_live i.next i.records.items c.in-Some.place c.args.t was c.self.invariant s c.args.self.now c.self.view_is))
+
+pub returns-in_ok-post-in-Some-clause-posted : goal.returns-in_ok-post-in-Some-clause-posted
+returns-in_ok-post-in-Some-clause-posted c =
+    let i = c.self.inside in
+    let was = c.index_mut.result.now in
+    let s = stands i.records.items c.deref.result.now c.in-Some.place c.args.t was c.deref.ensures.value c.in-Some.ensures.at c.index_mut.ensures.value in
+    let simple = stands_simple i.next i.records.items c.in-Some.place c.args.t was c.self.invariant s in
+    let number = ap (λ (m : Machine). m.thread) c.in_ok-post-in-Some.ensures.machine in
+    let still = ap (λ (m : Machine). are_simple m.stack.context) c.in_ok-post-in-Some.ensures.machine ∙ simple in
+    let is = c.in_ok-post-in-Some.ensures.thread ∙ ap (posted (thread_of was) c.args.at) c.in_ok-copy-in-Some.ensures in
+    stands_changed i.next i.records.items c.in-Some.place c.args.t was c.self.invariant s (λ (thread : Thread). posted thread c.args.at c.args.m.now) c.post.new.self c.args.self.now c.self.view_is number still is

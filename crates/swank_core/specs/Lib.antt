@@ -1,0 +1,9 @@
+pub mod Session
+pub mod Codes
+pub mod Kept
+pub mod Threads
+pub mod Drains
+pub mod Live
+pub mod Workers
+pub mod Bursts
+pub mod Ties

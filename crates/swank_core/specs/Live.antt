@@ -1,0 +1,32 @@
+-- The image, the threads and the workers of a session, as the code keeps them beside the rest of its world.
+use Rattle.std.specs.Prelude.{◌≡◌, ℕ, ◌≤◌, List, Option, Some, reverse, length}
+use Rattle.lisp_data.specs.declared.value.Value.{Value}
+use Rattle.rpc_messages.specs.declared.to_emacs.ToEmacs.{ToEmacs}
+use Rattle.term_model.specs.Label.{messages_in}
+use Rattle.mailboxes.specs.Mail.{AllBefore}
+use Rattle.step_model.specs.Image.{ImageState}
+use Rattle.session_model.specs.World.{Thread, World, Happened, thread_in}
+
+pub record LiveState : Type 0 where
+  pub image : ImageState
+  -- by number, None where the thread has ended
+  pub threads : List (Option Thread)
+  -- the live workers, in front the one to which a request was routed last
+  pub workers : List ℕ
+
+-- what is kept of a world
+abbrev pub shown : World → LiveState
+shown w = record { image = w.image; threads = w.threads; workers = w.workers }
+
+-- what happened is kept, and these are the messages that were told
+pub record Does (h : Happened) (new : LiveState) (outs : List ToEmacs) : Type 0 where
+  pub live : new ≡ shown h.after
+  pub outs_are : outs ≡ messages_in h.labels
+
+-- what holds of a thread before this place of the journal: its messages came before, and each of its interrupts had a place
+pub record IsPlaced (at : ℕ) (thread : Thread) : Type 0 where
+  pub mail : AllBefore at thread.mailbox
+  pub interrupts : thread.interrupts ≤ at
+
+abbrev pub ArePlaced : ℕ → List (Option Thread) → Type 0
+ArePlaced at threads = (t : ℕ) (thread : Thread) → thread_in threads t ≡ Some thread → IsPlaced at thread
