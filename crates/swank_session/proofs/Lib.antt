@@ -1,0 +1,11 @@
+pub mod StreamLemmas
+pub mod RunLemmas
+pub mod ScheduleLemmas
+pub mod EventLemmas
+pub mod OutcomeLemmas
+pub mod WriteLemmas
+pub mod NextLemmas
+pub mod FeedLemmas
+pub mod TurnLemmas
+pub mod ServeLemmas
+pub mod Summary

@@ -1,0 +1,4 @@
+pub mod Stream
+pub mod Promises
+pub mod Causes
+pub mod Course
