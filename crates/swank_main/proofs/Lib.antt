@@ -1,4 +1,0 @@
-pub mod AnswerLemmas
-pub mod KeptLemmas
-pub mod Lengths
-pub mod SessionLemmas

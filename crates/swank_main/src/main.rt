@@ -1,27 +1,23 @@
-//! The program: it answers the packets on standard input, in order, on standard output.
+//! The program: it serves the packets on standard input, in order, and writes what they are answered to standard output.
 //!
-//! [`run::run`] is the whole of it over any source and any sink, and its clauses are the program's promises; [`main`] hands it the
-//! words of the command line and the standard streams, and turns the status that it gives into the exit status and a line on
-//! standard error. What `run` promises stands in `specs/Ends.antt` and `specs/Answers.antt`, the one request that is answered in
-//! `specs/Request.antt`, and its answer is the `info` of the crate `server_info`.
+//! What it does is [`swank_command::run`], whose clauses are the program's promises. [`main`] hands it the words of the command line, a
+//! fresh image and the standard streams, and turns the status that it gives into the exit status and a line on standard error:
+//! `specs/Failures.antt` has the numbers.
 #![tactic(auto)]
 
-mod answer;
 mod devices;
-mod request;
-mod run;
-mod status;
+mod failure;
 #[cfg(test)]
 mod tests;
 
 use crate::devices::{ReaderSource, WriterSink};
-use crate::run::run;
-use crate::status::Status;
-use lisp_data::{NoMemory, Rows, Text};
-use std::alloc::Global;
+use crate::failure::Failure;
+use lisp_data::{Rows, Text};
+use lisp_image::Image;
 use std::env;
 use std::io::ErrorKind;
 use std::process::ExitCode;
+use swank_command::{Status, run};
 
 /// The words of the command line behind the program's name. A word that is no UTF-8 makes no command.
 fn words(rt: &HostRuntime) -> Result<Rows<Text>, Status> {
@@ -37,22 +33,31 @@ fn words(rt: &HostRuntime) -> Result<Rows<Text>, Status> {
     Ok(words)
 }
 
+/// The words of the command line and a fresh image.
+fn words_and_image(rt: &HostRuntime) -> Result<(Rows<Text>, Image), Status> {
+    let words = words(rt)?;
+    let image = Image::new(rt.alloc()).map_err(|_| Status::NoMemory)?;
+    Ok((words, image))
+}
+
 /// Runs the command over the standard streams.
 fn run_command(rt: &HostRuntime) -> Status {
-    match words(rt) {
-        Ok(words) => {
+    match words_and_image(rt) {
+        Ok((words, image)) => {
             let mut input = ReaderSource::new(rt.stdin());
             let mut output = WriterSink::new(rt.stdout());
-            run(rt.alloc(), words.as_slice(), &mut input, &mut output).status
+            run(rt.alloc(), words.as_slice(), image, &mut input, &mut output).status
         }
         Err(status) => status,
     }
 }
 
 fn main(rt: HostRuntime) -> ExitCode {
-    let status = run_command(&rt);
-    if status != Status::Ok {
-        let _ = eprintln!(rt; "swank: {status}");
+    match Failure::of(run_command(&rt)) {
+        Some(failure) => {
+            let _ = eprintln!(rt; "swank: {failure}");
+            ExitCode::from(failure.number())
+        }
+        None => ExitCode::SUCCESS,
     }
-    ExitCode::from(status.number())
 }
