@@ -9,4 +9,6 @@ mod images;
 #[cfg(test)]
 mod packages;
 #[cfg(test)]
+mod parsing;
+#[cfg(test)]
 mod trees;
