@@ -1,4 +1,4 @@
-ghost use Rattle.std.specs.Prelude.{◌≡◌, ◌++◌, Some, IfOk, OnOk};
+ghost use Rattle.std.specs.Prelude.{◌≡◌, ◌++◌, Some, IfOk, OnOk, is_some, true};
 ghost use Rattle.lisp_packages.specs.Naming.{in_named, valued};
 ghost use Rattle.step_model.specs.Requests.{before_forms, placed_found};
 ghost use Rattle.syntax_rows.specs.Parsing.{parsed};
@@ -43,32 +43,22 @@ fn tree_of(alloc: Global, form: &Value) -> Result<Option<Ast>, NoMemory>
     }
 }
 
-/// Makes the symbols of a form that are new where this package is current. A form that is refused makes none.
+/// Makes the symbols of a form that are new where this package is current. The form has a value there, so that only memory may be wanting.
 fn make_symbols(packages: &mut Packages, package: &Text, form: &Sexp) -> Result<(), NoMemory>
+    requires valued { is_some (value_in (in_named packages.old «package».now (λ i. valued i form.now packages.old))) ≡ true }
     ensures { OnOk result (packages.new ≡ packages_in packages.old (in_named packages.old «package».now (λ i. valued i form.now packages.old))) }
 {
     match packages.value_of(package, form) {
         Ok(_) => Ok(()),
-        Err(_) => Err(NoMemory),
+        Err(NameFault::NoPackage(_)) => unreachable!(),
+        Err(NameFault::NotExternal(_, _)) => unreachable!(),
+        Err(NameFault::Clash) => unreachable!(),
+        Err(NameFault::NoMemory) => Err(NoMemory),
     }
 }
 
-/// The tree of a form of a text where this package is current; None where the form is refused. No symbol is made.
-fn look_up(
-    alloc: Global,
-    package: &Text,
-    form: &Sexp,
-    packages: &Packages,
-) -> Result<Option<Ast>, NoMemory>
-    ensures { IfOk result (λ tree. tree ≡ tree_of (resolved packages.now «package».now form.now)) }
-{
-    match value_of(packages, package, form)? {
-        Some(value) => tree_of(alloc, &value),
-        None => Ok(None),
-    }
-}
-
-/// The same, with the form's symbols in the packages where it is not refused.
+/// The tree of a form of a text where this package is current, with its symbols in the packages; None where the form is refused, which makes
+/// none.
 fn resolve(
     alloc: Global,
     package: &Text,
@@ -78,7 +68,10 @@ fn resolve(
     ensures tree { IfOk result (λ tree. tree ≡ tree_of (resolved packages.old «package».now form.now)) }
     ensures packages { OnOk result (packages.new ≡ packages_with packages.old (resolved packages.old «package».now form.now)) }
 {
-    let tree = look_up(alloc, package, form, packages)?;
+    let Some(value) = value_of(packages, package, form)? else {
+        return Ok(None);
+    };
+    let tree = tree_of(alloc, &value)?;
     if tree.is_some() {
         make_symbols(packages, package, form)?;
     }

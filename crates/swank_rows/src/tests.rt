@@ -56,6 +56,7 @@ fn streams_are_answered(alloc: Global) -> Result<bool, NoMemory> {
     let accent = r#"000045(:emacs-rex (swank:interactive-eval "\"é\"") "COMMON-LISP-USER" t 1)"#;
     let accented = r#"00001D(:return (:ok "=> \"é\"") 1)"#;
     let unclosed = r#"00001F(:reader-error "(a" "Unclosed")"#;
+    let empty = r#"000018(:reader-error "" "End")"#;
     let cut = &EVALUATION[..EVALUATION.len() - 1];
     Ok(
         answers(alloc, &[REQUEST], REPLY, Status::Ok)?
@@ -64,10 +65,12 @@ fn streams_are_answered(alloc: Global) -> Result<bool, NoMemory> {
             && answers(alloc, &[EVALUATION], ANSWER, Status::Ok)?
             && answers(alloc, &[accent], accented, Status::Ok)?
             && answers(alloc, &[EVALUATION, "00004"], ANSWER, Status::Truncated)?
+            && answers(alloc, &[REQUEST, "00004"], REPLY, Status::Truncated)?
             && answers(alloc, &[EVALUATION, cut], ANSWER, Status::Truncated)?
             && answers(alloc, &["00zz10"], "", Status::BadHeader)?
             && answers(alloc, &[EVALUATION, "00zz10"], ANSWER, Status::BadHeader)?
-            && answers(alloc, &["000002(a"], unclosed, Status::Ok)?,
+            && answers(alloc, &["000002(a"], unclosed, Status::Ok)?
+            && answers(alloc, &["000000"], empty, Status::Ok)?,
     )
 }
 
@@ -296,5 +299,45 @@ fn octets_that_are_no_text(alloc: Global) -> Result<bool, NoMemory> {
 #[test]
 fn octets_that_are_no_text_are_told(rt: HostRuntime) -> Result<(), Fail> {
     assert!(rt; octets_that_are_no_text(rt.alloc())?);
+    Ok(())
+}
+
+/// A packet of 1,048,576 octets, its header with them, that holds a string of as many `a` as there is room for.
+fn large_packet(alloc: Global) -> Result<Rows<u8>, NoMemory> {
+    let part = [97; 1_048];
+    let mut packet = joined(alloc, &["0ffffa\""])?;
+    for _ in 0..1_000 {
+        packet.extend(&part)?;
+    }
+    packet.extend(&part[..568])?;
+    packet.push(34)?;
+    Ok(packet)
+}
+
+fn copies(alloc: Global, packet: &[u8], count: u64) -> Result<Rows<u8>, NoMemory> {
+    let mut octets = Rows::new(alloc);
+    for _ in 0..count {
+        octets.extend(packet)?;
+    }
+    Ok(octets)
+}
+
+/// Whether 64 such packets, as much as a session may have, are each answered, and the session ends at the limit.
+fn as_much_as_may_be_is_read(alloc: Global) -> Result<bool, NoMemory> {
+    let packet = large_packet(alloc)?;
+    let octets = copies(alloc, packet.as_slice(), 64)?;
+    let ran = ran(alloc, Given::pipe(octets.as_slice()))?;
+    let begins = ran.written.as_slice().starts_with(b"000410(:reader-error ");
+    Ok(
+        begins
+            && ran.status == Status::InputLimit
+            && ran.taken == 67_108_864
+            && ran.sent == 64 * 1_046,
+    )
+}
+
+#[test]
+fn no_more_is_read_than_a_session_may_have(rt: HostRuntime) -> Result<(), Fail> {
+    assert!(rt; as_much_as_may_be_is_read(rt.alloc())?);
     Ok(())
 }
