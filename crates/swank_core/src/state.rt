@@ -245,6 +245,7 @@ impl Core {
         requires whole { self.old.failed ≡ false }
         ensures outputs { result ≡ (world self.old).undrained }
         ensures adds { self.new ≡ with_entry self.old seat (event.Drain (length result)) }
+        ensures legal { IsLegalFrom rules self.new.opened self.new.journal }
     {
         self.journal.add_drain(seat, self.outs.len() as u64);
         mem::replace(&mut self.outs, Rows::new(self.alloc))

@@ -33,3 +33,6 @@ invariant_of-self c =
       fits_drain i.journal c.add_drain.new.self (entry c.args.seat (Drain c.len.result)) i.outs c.replace.new.dest i.steps i.steps_after_end i.limits is some empty fits,
       legal_drain i.opened.value i.journal c.add_drain.new.self c.args.seat c.len.result is (omega (arith, c.len.ensures, some)) whole c.self.invariant.2,
     )
+
+pub returns-clause-legal : goal.returns-clause-legal
+returns-clause-legal c = (invariant_of-self c).2.legal
