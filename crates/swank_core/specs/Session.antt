@@ -1,5 +1,5 @@
 -- A live session, as its callers see it: the image that it was opened with, its limits and its journal.
-use Rattle.std.specs.Prelude.{◌≡◌, ◌≢◌, ℕ, ◌+◌, ◌<◌, ◌≤◌, nat_lt, Bool, true, false, ◌||◌, ◌&&◌, not, List, [], ◌∷◌, ◌++◌, length, find, Option, Some, None, Result, Ok, Err}
+use Rattle.std.specs.Prelude.{◌≡◌, ◌≢◌, ℕ, ◌+◌, ◌<◌, ◌≤◌, nat_lt, Bool, true, false, ◌||◌, ◌&&◌, not, if◌then◌else◌, List, [], ◌∷◌, ◌++◌, length, find, Option, Some, None, Result, Ok, Err}
 use Rattle.session_model.specs.declared.event.Entry.{Entry}
 use Rattle.session_model.specs.declared.event.Event.{Event}
 use Rattle.session_model.specs.declared.event.Event.TheVariants as event
@@ -62,6 +62,10 @@ Adds seat event old (Err fault) new = (blocked old ≡ Some fault) × (new ≡ o
 -- the least ready thread above this one
 abbrev pub ready_above : World → ℕ → Option ℕ
 ready_above w after = find (is_ready w) (numbers (length w.threads) (after + 1))
+
+-- the least ready thread of a session above this one: none where it was halted
+abbrev pub next_ready_of : Session → ℕ → Option ℕ
+next_ready_of s after = if s.halted then None else ready_above (world s) after
 
 -- how many threads are lent
 abbrev pub lent_among : List (Option Thread) → ℕ

@@ -6,7 +6,7 @@ ghost use Rattle.session_model.specs.Pipe.{burst_length};
 ghost use Rattle.session_model.specs.World.{thread_at};
 ghost use Rattle.session_model.specs.declared.event.Event.TheVariants as event;
 ghost use Rattle.server_rules.specs.Rules.{rules};
-ghost use Rattle.swank_core.specs.Session.{Adds, AreLimits, blocked, is_closed, lent_among, opening, ready_above, steps_behind, with_entry, world};
+ghost use Rattle.swank_core.specs.Session.{Adds, AreLimits, blocked, is_closed, lent_among, next_ready_of, opening, steps_behind, with_entry, world};
 ghost use Rattle.swank_core.specs.Ties.{IsFree};
 
 use crate::live::{Burst, Live};
@@ -167,11 +167,14 @@ impl Core {
         !self.halted && self.live.threads().is_lendable(t)
     }
 
-    /// The least thread above this number that is ready. Nothing is said once memory was wanting, or the session was halted.
+    /// The least thread above this number that is ready. Nothing is said once memory was wanting.
     pub fn next_ready(&self, after: u64) -> Option<u64>
-        ensures least { self.now.failed ≡ false → self.now.halted ≡ false → result ≡ ready_above (world self.now) after }
+        ensures least { self.now.failed ≡ false → result ≡ next_ready_of self.now after }
         ensures small { IfSome result (λ t. t < 2 ^ 63) }
     {
+        if self.halted {
+            return None;
+        }
         self.live.threads().next_lendable(after)
     }
 

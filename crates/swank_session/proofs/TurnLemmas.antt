@@ -1,6 +1,6 @@
 -- One part of the schedule after another.
 use Rattle.std.proofs.Common.{◌≡◌, ◌≢◌, ℕ, zero, suc, ◌+◌, ◌-◌, ◌<◌, ◌≤◌, min, ◌⊎◌, inl, inr, Bool, true, false, List, [], ◌∷◌, ◌++◌, length, Option, Some, None, Result, Ok, Err, refl, sym, ap, ◌∙◌, subst, append_assoc, append-nil, arith}
-use Rattle.std.specs.Prelude.{◌&&◌, not, IfErr, IfOk, IfSome, OnOk}
+use Rattle.std.specs.Prelude.{◌&&◌, not, if◌then◌else◌, IfErr, IfOk, IfSome, OnOk}
 use mathlib.Core.List.{IsPrefix}
 use Rattle.rpc_messages.specs.declared.from_emacs.FromEmacs.{FromEmacs}
 use Rattle.rpc_messages.specs.declared.to_emacs.ToEmacs.{ToEmacs}
@@ -15,7 +15,7 @@ use Rattle.session_model.specs.World.{World, thread_at}
 use Rattle.session_model.proofs.PipeLegal.{burst_most}
 use Rattle.session_model.proofs.PipeRests.{quiet_when}
 use Rattle.server_rules.specs.Rules.{rules}
-use Rattle.swank_core.specs.Session.{Session, Adds, blocked, is_closed, ready_above, with_entry, world}
+use Rattle.swank_core.specs.Session.{Session, Adds, blocked, is_closed, next_ready_of, ready_above, with_entry, world}
 use Rattle.swank_core.specs.declared.fault.CoreFault.{CoreFault}
 use Rattle.swank_session.specs.Course.{between, steps_left, whole, IsLive, IsFree, IsPaused, IsAtRest, IsNearer, Later, Arrives, IsOverAfter, Reaches, closed, spent, Halts, halt_of, Writes, Paid, Pays, Spends}
 use Rattle.swank_session.specs.declared.ends.Halt.{Halt}
@@ -216,12 +216,16 @@ at-rest s r paused shut none = record { paused = paused; open_ = still-open s sh
 pub rest-round : (s : Session) (messages : List FromEmacs) (ends : Bool) (r : ℕ) → IsAtRest s → whole s (between messages ends r) ≡ whole s (between messages ends 0)
 rest-round s messages ends r rest = any-round s messages ends r rest.paused.drained rest.open_ (λ q. quiet-none (world s) q rest.quiet)
 
--- what the core says of the next thread is what the schedule says
-pub found-above : (s : Session) (r t : ℕ) → ready_above (world s) r ≡ Some t → next_ready (world s) r ≡ Some t
-found-above s r t e = next-found (world s) r t (run_empty rules s.opened s.journal) e
+-- a session that was not halted has the next thread of its world
+running-above : (s : Session) (r : ℕ) → s.halted ≡ false → next_ready_of s r ≡ ready_above (world s) r
+running-above s r running = ap (λ b. if b then None else ready_above (world s) r) running
 
-pub found-round : (s : Session) (r : ℕ) → ready_above (world s) r ≡ None → next_ready (world s) r ≡ ready_above (world s) 0
-found-round s r e = next-round (world s) r (run_empty rules s.opened s.journal) e
+-- what the core says of the next thread is what the schedule says
+pub found-above : (s : Session) (r t : ℕ) → s.halted ≡ false → next_ready_of s r ≡ Some t → next_ready (world s) r ≡ Some t
+found-above s r t running e = next-found (world s) r t (run_empty rules s.opened s.journal) (sym (running-above s r running) ∙ e)
+
+pub found-round : (s : Session) (r : ℕ) → s.halted ≡ false → next_ready_of s r ≡ None → next_ready (world s) r ≡ next_ready_of s 0
+found-round s r running e = next-round (world s) r (run_empty rules s.opened s.journal) (sym (running-above s r running) ∙ e) ∙ sym (running-above s 0 running)
 
 -- ---- a message
 
