@@ -11,4 +11,6 @@ mod packages;
 #[cfg(test)]
 mod parsing;
 #[cfg(test)]
+mod symbols;
+#[cfg(test)]
 mod trees;

@@ -333,6 +333,7 @@ fn defined(
     match packages.define_package(&name, uses.as_slice(), exports.as_slice()) {
         Ok(()) => Ok("defined"),
         Err(NameFault::NoPackage(_)) => Ok("no package"),
+        Err(NameFault::NotExternal(..)) => Ok("not external"),
         Err(NameFault::Clash) => Ok("clash"),
         Err(fault) => Err(fault),
     }
@@ -362,6 +363,8 @@ fn packages_are_made_and_widened_unless_they_clash(rt: HostRuntime) -> Result<()
         ("Q", "", "A", "defined"),
         ("R", "P", "", "defined"),
         ("R", "Q", "", "clash"),
+        ("CL", "", "NEW", "not external"),
+        ("CL", "NOPE", "NEW", "no package"),
     ] {
         assert!(rt;
             defines(&mut packages, alloc, name, used, exported, want)?,
@@ -374,6 +377,45 @@ fn packages_are_made_and_widened_unless_they_clash(rt: HostRuntime) -> Result<()
         ("CL-USER", "P:CONS", "COMMON-LISP::CONS"),
         ("R", "A", "P::A"),
         ("R", "CDR", "R::CDR"),
+    ] {
+        assert!(rt;
+            tells(&mut packages, alloc, package, token, want)?,
+            "{package} {token}"
+        );
+    }
+    Ok(())
+}
+
+#[test]
+fn tokens_where_a_package_is_made_beside_the_others(rt: HostRuntime) -> Result<(), Fail> {
+    let alloc = rt.alloc();
+    let mut packages = Packages::new(alloc)?;
+    assert!(rt; defines(&mut packages, alloc, "P", "CL", "OPEN", "defined")?);
+    for (package, token, want) in [
+        ("P", "CAR", "COMMON-LISP::CAR"),
+        ("P", "OPEN", "P::OPEN"),
+        ("P", "HIDDEN", "P::HIDDEN"),
+        ("P", ":HIDDEN", "KEYWORD::HIDDEN"),
+        ("P", "CL:CAR", "COMMON-LISP::CAR"),
+        ("P", "Q:OPEN", "no package Q"),
+        ("P", "Q::OPEN", "no package Q"),
+        ("Q", "OPEN", "no package Q"),
+        ("Q", ":OPEN", "no package Q"),
+        ("Q", "R:OPEN", "no package Q"),
+        ("CL-USER", "OPEN", "COMMON-LISP-USER::OPEN"),
+        ("CL-USER", "P:OPEN", "P::OPEN"),
+        ("CL-USER", "P::OPEN", "P::OPEN"),
+        ("CL-USER", "P:HIDDEN", "HIDDEN not external in P"),
+        ("CL-USER", "P::HIDDEN", "P::HIDDEN"),
+        ("CL-USER", "P:CAR", "CAR not external in P"),
+        ("CL-USER", "P::CAR", "COMMON-LISP::CAR"),
+        ("CL-USER", "P:NEW", "NEW not external in P"),
+        ("CL-USER", "P::NEW", "P::NEW"),
+        ("CL", "OPEN", "OPEN not external in COMMON-LISP"),
+        ("CL", "P:OPEN", "P::OPEN"),
+        ("KEYWORD", "P:OPEN", "P::OPEN"),
+        ("KEYWORD", "HIDDEN", "KEYWORD::HIDDEN"),
+        ("KEYWORD", "KEYWORD:HIDDEN", "KEYWORD::HIDDEN"),
     ] {
         assert!(rt;
             tells(&mut packages, alloc, package, token, want)?,
