@@ -1,12 +1,12 @@
 -- The packages of a fresh image have short names.
-use Rattle.std.proofs.Common.{◌≡◌, List, [], ◌∷◌, sym, subst, arith}
+use Rattle.std.proofs.Common.{◌≡◌, true, List, [], ◌∷◌, refl, ap, ◌∙◌}
 use Rattle.std.specs.Prelude.{codes}
 use Rattle.lisp_image.specs.Image.{fresh_image}
 use Rattle.lisp_packages.specs.declared.entry.Entry.{Entry}
 use Rattle.lisp_packages.specs.declared.lisp_package.Package.{Package}
 use Rattle.lisp_packages.specs.Fresh.{standard_packages, standard_packages-is}
 use Rattle.lisp_packages.specs.Naming.{common_lisp, keyword}
-use Rattle.server_laws.specs.Small.{AreShort, HasShortNames}
+use Rattle.server_laws.specs.Small.{HasShortNames, are_short}
 
 -- the three packages, with any symbols of COMMON-LISP
 abbrev three : List Entry → List Package
@@ -16,12 +16,11 @@ three own =
     ∷ (record { name = keyword; nicknames = []; uses = []; own = [] })
     ∷ []
 
-three_short : (own : List Entry) → AreShort (three own)
-three_short own =
-    (record { name = omega arith; prompt = omega arith }, (record { name = omega arith; prompt = omega arith }, (record { name = omega arith; prompt = omega arith }, tt)))
+three_short : (own : List Entry) → are_short (three own) ≡ true
+three_short own = refl
 
-those_short : {own : List Entry} → standard_packages ≡ three own → AreShort standard_packages
-those_short {own = own} e = subst AreShort (sym e) (three_short own)
+those_short : {own : List Entry} → standard_packages ≡ three own → are_short standard_packages ≡ true
+those_short {own = own} e = ap are_short e ∙ three_short own
 
 pub fresh_short : HasShortNames (fresh_image standard_packages)
 fresh_short = those_short standard_packages-is

@@ -1,5 +1,6 @@
 pub mod Lengths
 pub mod Messages
+pub mod ShortNames
 pub mod Names
 pub mod Replies
 pub mod Terms

@@ -38,13 +38,13 @@ pub reply_fits : (id : ℤ) (reply : Sexp) → FitsSigned w64 id → IsShortRepl
 reply_fits id reply h short =
     let ok = list-length (sym_then (codes ":OK") refl (form_then reply max_reply short none)) in
     let all = list-length (sym_then (codes ":RETURN") refl (form_then _ _ ok (id_then id h none))) in
-    omega arith
+    record { text = omega arith; numbers = tt }
 
 pub abort_fits : (id : ℤ) → FitsSigned w64 id → FitsPacket (message.Return id returned.Abort)
 abort_fits id h =
     let abort = list-length (sym_then (codes ":ABORT") refl (str_then (codes "NIL") none)) in
     let all = list-length (sym_then (codes ":RETURN") refl (form_then _ _ abort (id_then id h none))) in
-    omega arith
+    record { text = omega arith; numbers = tt }
 
 length-not_found : (t : ℕ) → t < 2 ^ 63 → length (not_found t) ≤ 40
 length-not_found t h = omega (arith, length-append (codes "Thread not found: ") (decimal t), length-decimal-le 20 t (omega arith) (omega (arith, h)) (omega (arith, h)))
@@ -52,27 +52,27 @@ length-not_found t h = omega (arith, length-append (codes "Thread not found: ") 
 pub invalid_fits : (id : ℤ) (t : ℕ) → FitsSigned w64 id → t < 2 ^ 63 → FitsPacket (message.InvalidRpc id (not_found t))
 invalid_fits id t h small =
     let all = list-length (sym_then (codes ":INVALID-RPC") refl (id_then id h (str_then (not_found t) none))) in
-    omega (arith, all, length-not_found t small)
+    record { text = omega (arith, all, length-not_found t small); numbers = tt }
 
 pub condition_fits : (t : ℕ) → t < 2 ^ 63 → FitsPacket (message.DebugCondition t (not_found t))
 condition_fits t small =
     let all = list-length (sym_then (codes ":DEBUG-CONDITION") refl (number_then t small (str_then (not_found t) none))) in
-    omega (arith, all, length-not_found t small)
+    record { text = omega (arith, all, length-not_found t small); numbers = small }
 
 pub fault_fits : (packet text : List ℕ) → length packet ≤ max_packet → length text ≤ 1000 → FitsPacket (message.ReaderError packet text)
 fault_fits packet text h k =
     let all = list-length (sym_then (codes ":READER-ERROR") refl (str_then packet (str_then text none))) in
-    omega (arith, all, h, k)
+    record { text = omega (arith, all, h, k); numbers = tt }
 
 pub text_fits : (text : List ℕ) (repl_result : Bool) → length text ≤ max_text → FitsPacket (message.WriteString text repl_result)
 text_fits text true h =
     let all = list-length (sym_then (codes ":WRITE-STRING") refl (str_then text (sym_then (codes ":REPL-RESULT") refl none))) in
-    omega (arith, all, h)
+    record { text = omega (arith, all, h); numbers = tt }
 text_fits text false h =
     let all = list-length (sym_then (codes ":WRITE-STRING") refl (str_then text none)) in
-    omega (arith, all, h)
+    record { text = omega (arith, all, h); numbers = tt }
 
 pub package_fits : (name prompt : List ℕ) → length name ≤ max_name → length prompt ≤ max_name → FitsPacket (message.NewPackage name prompt)
 package_fits name prompt h k =
     let all = list-length (sym_then (codes ":NEW-PACKAGE") refl (str_then name (str_then prompt none))) in
-    omega (arith, all, h, k)
+    record { text = omega (arith, all, h, k); numbers = tt }

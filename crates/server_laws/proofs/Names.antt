@@ -1,5 +1,5 @@
 -- Naming symbols makes no package, and renames none.
-use Rattle.std.proofs.Common.{ℕ, zero, suc, Bool, true, false, List, [], ◌∷◌, map, Option, Some, None, Ok, Err, sym, ap, subst}
+use Rattle.std.proofs.Common.{◌≡◌, ℕ, Bool, true, false, List, [], ◌∷◌, map, Option, Some, None, Ok, Err, sym, ap, ◌∙◌, subst}
 use Rattle.std.specs.Prelude.{if◌then◌else◌, Result}
 use Rattle.std.specs.List.{list_any, before_first, after_first}
 use Rattle.std.specs.Option.{option_map_or}
@@ -15,13 +15,15 @@ use Rattle.lisp_packages.specs.declared.lisp_package.Package.{Package}
 use Rattle.lisp_packages.specs.Entries.{entry_of}
 use Rattle.lisp_packages.specs.Naming.{AllValued, Named, Valued, common_lisp, external_named, in_named, in_turn, interned, is_colon, keyword, keyword_named, list_valued, made_symbol, named, prefixed, qualified, symbol_valued, value_before, value_step, value_then, valued}
 use Rattle.lisp_packages.specs.Packages.{accessible, external_at, name_at, own_at, place_of, with_own}
-use Rattle.server_laws.specs.Small.{AreShort}
+use Rattle.server_laws.specs.Small.{are_short}
+use Rattle.server_laws.proofs.ShortNames.{are_short-own}
+
+abbrev pub AreShort : List Package → Type 0
+AreShort ps = are_short ps ≡ true
 
 -- other symbols in a package
 short-own : (ps : List Package) (i : ℕ) (own : List Entry) → AreShort ps → AreShort (with_own ps i own)
-short-own [] i own h = tt
-short-own (p ∷ ps) zero own h = (record { name = h.0.name; prompt = h.0.prompt }, h.1)
-short-own (p ∷ ps) (suc i) own h = (h.0, short-own ps i own h.1)
+short-own ps i own h = are_short-own ps i own ∙ h
 
 -- the packages of an answer
 abbrev pub IsShortAnswer : {X : Type 0} → Result (List Package × X) NameFault → Type 0

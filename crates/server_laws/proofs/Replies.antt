@@ -1,6 +1,6 @@
 -- What a request's function answers, and what its forms' value gives, is short where package names are.
-use Rattle.std.proofs.Common.{◌≡◌, ℕ, zero, suc, ◌+◌, ◌*◌, ◌≤◌, Bool, true, false, List, [], ◌∷◌, ◌++◌, length, map, take, Option, Some, None, Ok, Err, refl, sym, ap, ◌∙◌, arith}
-use Rattle.std.specs.Prelude.{if◌then◌else◌, nat_lt, codes, slice_get, option_map, option_and_then, unwrap_or, pos, Result}
+use Rattle.std.proofs.Common.{◌≡◌, ℕ, ◌+◌, ◌*◌, ◌≤◌, Bool, true, false, List, [], ◌∷◌, ◌++◌, length, map, take, Option, Some, None, Ok, Err, refl, sym, ap, ◌∙◌, arith}
+use Rattle.std.specs.Prelude.{if◌then◌else◌, nat_lt, codes, pos, Result}
 use Rattle.std.specs.Option.{option_map_or}
 use Rattle.std.proofs.lemmas.Bool.{ltb-false, or_parts}
 use Rattle.std.proofs.lemmas.List.{length-take}
@@ -15,7 +15,7 @@ use Rattle.lisp_data.specs.declared.value.Value.TheVariants.{rolls-Str}
 use Rattle.lisp_data.specs.declared.value.Value.TheViews.{out-Value}
 use Rattle.lisp_data.specs.declared.value.Condition.{Condition}
 use Rattle.lisp_errors.specs.Limits.{is_too_large, max_depth, max_weight, value_too_large}
-use Rattle.lisp_packages.specs.Packages.{name_at, place_of, prompt_of}
+use Rattle.lisp_packages.specs.Packages.{name_at, place_of}
 use Rattle.lisp_packages.specs.declared.lisp_package.Package.{Package}
 use Rattle.rpc_messages.specs.Cut.{cut}
 use Rattle.sexp_printer.specs.Printed.{printed}
@@ -36,43 +36,39 @@ use Rattle.swank_rpc.specs.Names.{function_of}
 use Rattle.swank_rpc.specs.Texts.{forms_of, no_value, within}
 use Rattle.swank_rpc.specs.declared.function.SwankFunction.{SwankFunction}
 use Rattle.swank_rpc.specs.declared.function.SwankFunction.TheVariants as function
-use Rattle.server_laws.specs.Small.{AreShort, HasShortNames, max_name}
+use Rattle.server_laws.specs.Small.{HasShortNames, max_name}
 use Rattle.server_laws.proofs.Lengths.{Lengths, form_then, length-cut, length-int, length-str, list-length, more, none, str_then, sym_then}
 use Rattle.server_laws.proofs.Messages.{IsShortReply, max_text}
+use Rattle.server_laws.proofs.Names.{AreShort}
+use Rattle.server_laws.proofs.ShortNames.{name_short, prompt_found, user_short}
 
 -- ---- the global package
 
-name_short : (ps : List Package) (i : ℕ) → AreShort ps → length (name_at ps i) ≤ max_name
-name_short [] i h = omega arith
-name_short (p ∷ ps) zero h = h.0.name
-name_short (p ∷ ps) (suc i) h = name_short ps i h.1
+-- a short name, for which a prompt shows a short text
+record IsShown (ps : List Package) (name : List ℕ) : Type 0 where
+  short : length name ≤ max_name
+  shown : length (prompt ps name) ≤ max_name
 
-named_short : (ps : List Package) (o : Option ℕ) → AreShort ps → length (option_map_or (name_at ps) o user_package) ≤ max_name
-named_short ps None h = omega arith
-named_short ps (Some i) h = name_short ps i h
+user_shown : (ps : List Package) → AreShort ps → IsShown ps user_package
+user_shown ps h = record { short = omega arith; shown = user_short ps h }
 
-package_short : (ps : List Package) (o : Option Value) → AreShort ps → length (package_of ps o) ≤ max_name
-package_short ps None h = omega arith
-package_short ps (Some v) h = by_value (out-Value v)
+named_shown : (ps : List Package) (text : List ℕ) (o : Option ℕ) → place_of ps text ≡ o → AreShort ps → IsShown ps (option_map_or (name_at ps) o user_package)
+named_shown ps text None e h = user_shown ps h
+named_shown ps text (Some i) e h = record { short = name_short ps i h; shown = prompt_found ps text i e h }
+
+package_shown : (ps : List Package) (o : Option Value) → AreShort ps → IsShown ps (package_of ps o)
+package_shown ps None h = user_shown ps h
+package_shown ps (Some v) h = by_value (out-Value v)
   where
-    by_value : (x : Value-F Value Condition) → length (named_by ps x) ≤ max_name
-    by_value (Value-F.Str text) = named_short ps (place_of ps text) h
-    by_value x = omega arith
+    by_value : (x : Value-F Value Condition) → IsShown ps (named_by ps x)
+    by_value (Value-F.Str text) = named_shown ps text (place_of ps text) refl h
+    by_value x = user_shown ps h
 
 global_short : (image : ImageState) → HasShortNames image → length (global_package image) ≤ max_name
-global_short image h = package_short image.packages (global image package_variable) h
-
-prompt_at : (ps : List Package) (i : ℕ) (name : List ℕ) → AreShort ps → length name ≤ max_name → length (unwrap_or (option_map prompt_of (slice_get ps i)) name) ≤ max_name
-prompt_at [] i name h k = k
-prompt_at (p ∷ ps) zero name h k = h.0.prompt
-prompt_at (p ∷ ps) (suc i) name h k = prompt_at ps i name h.1 k
-
-prompt_of_place : (ps : List Package) (o : Option ℕ) (name : List ℕ) → AreShort ps → length name ≤ max_name → length (unwrap_or (option_map prompt_of (option_and_then (slice_get ps) o)) name) ≤ max_name
-prompt_of_place ps None name h k = k
-prompt_of_place ps (Some i) name h k = prompt_at ps i name h k
+global_short image h = (package_shown image.packages (global image package_variable) h).short
 
 prompt_short : (image : ImageState) → HasShortNames image → length (prompt image.packages (global_package image)) ≤ max_name
-prompt_short image h = prompt_of_place image.packages (place_of image.packages (global_package image)) (global_package image) h (global_short image h)
+prompt_short image h = (package_shown image.packages (global image package_variable) h).shown
 
 -- ---- replies
 

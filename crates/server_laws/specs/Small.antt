@@ -1,30 +1,37 @@
 -- What makes the messages of a session fit their packets: package names are short, and what arrives is small.
 use mir.Syntax.{w64}
-use Rattle.std.specs.Prelude.{ℕ, ◌≤◌, ◌^◌, List, [], ◌∷◌, length, FitsSigned}
-use Rattle.lisp_packages.specs.Packages.{prompt_of}
+use Rattle.std.specs.Prelude.{ℕ, ◌≤◌, ◌^◌, Bool, ◌&&◌, nat_le, nat_lt, List, [], ◌∷◌, length, FitsSigned, IsTrue}
+use Rattle.std.specs.List.{list_all, list_any}
+use Rattle.std.specs.Str.{bytes_eq}
 use Rattle.lisp_packages.specs.declared.lisp_package.Package.{Package}
 use Rattle.rpc_messages.specs.declared.from_emacs.FromEmacs.{FromEmacs}
 use Rattle.rpc_messages.specs.declared.from_emacs.FromEmacs.TheVariants as mail
 use Rattle.rpc_messages.specs.declared.to_emacs.ToEmacs.{ToEmacs}
+use Rattle.rpc_messages.specs.Outgoing.{HasSmallNumbers}
 use Rattle.session_model.specs.Wire.{text_of}
+use Rattle.step_model.specs.CurrentPackage.{user_package}
 use Rattle.step_model.specs.Image.{ImageState}
+use Rattle.swank_rpc.specs.Info.{prompt}
 
 -- how many octets a package's name has at most
 abbrev pub max_name : ℕ
 max_name = 2 ^ 20
 
--- a package with a short name, for which a prompt shows a short text
-pub record IsShort (p : Package) : Type 0 where
-  pub name : length p.name ≤ max_name
-  pub prompt : length (prompt_of p) ≤ max_name
+-- whether a package's name is short, and what a prompt shows for the package of that name
+abbrev pub is_short : List Package → Package → Bool
+is_short ps p = nat_le (length p.name) max_name && nat_le (length (prompt ps p.name)) max_name
 
-abbrev pub AreShort : List Package → Type 0
-AreShort [] = Unit {0}
-AreShort (p ∷ ps) = IsShort p × AreShort ps
+-- whether the package is the one that is current where nothing names another
+abbrev pub is_user : Package → Bool
+is_user p = bytes_eq p.name user_package
 
--- each package of the image has them
+-- whether packages have short names: each has, COMMON-LISP-USER is one of them, and they can be counted
+abbrev pub are_short : List Package → Bool
+are_short ps = nat_lt (length ps) (2 ^ 63) && list_any is_user ps && list_all (is_short ps) ps
+
+-- the packages of the image have short names
 abbrev pub HasShortNames : ImageState → Type 0
-HasShortNames image = AreShort image.packages
+HasShortNames image = IsTrue (are_short image.packages)
 
 -- how many octets of an unreadable packet are shown at most: 1,000 characters and three dots
 abbrev pub max_packet : ℕ
@@ -40,6 +47,7 @@ abbrev pub AreSmall : List FromEmacs → Type 0
 AreSmall [] = Unit {0}
 AreSmall (m ∷ ms) = IsSmall m × AreSmall ms
 
--- a message's text fits a packet
-abbrev pub FitsPacket : ToEmacs → Type 0
-FitsPacket m = length (text_of m) ≤ 0xFFFFFF
+-- a message fits a packet: its text does, and each of its numbers is an integer of a form
+pub record FitsPacket (m : ToEmacs) : Type 0 where
+  pub text : length (text_of m) ≤ 0xFFFFFF
+  pub numbers : HasSmallNumbers m
