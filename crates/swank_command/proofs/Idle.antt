@@ -70,7 +70,7 @@ none-some x e = cc
 
 module _ (fault : WordsFault) (asked : Option Limits) (usage : fault ≡ words.Usage → asked ≡ None) where
   -- the words asked for a session, so memory was wanting
-  wanting : (limits : Limits) → asked ≡ Some limits → fault ≡ words.NoMemory
+  pub wanting : (limits : Limits) → asked ≡ Some limits → fault ≡ words.NoMemory
   wanting limits some = go fault refl
     where
       go : (f : WordsFault) → fault ≡ f → fault ≡ words.NoMemory

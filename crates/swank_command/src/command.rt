@@ -1,9 +1,10 @@
-ghost use Rattle.std.specs.Prelude.{◌≡◌, ◌≢◌, ◌-◌, ◌^◌, ◌⊎◌, ℕ, List, Some, None, [], length, min};
+ghost use Rattle.std.specs.Prelude.{◌≡◌, ◌≢◌, ◌-◌, ◌^◌, ◌⊎◌, ℕ, List, All, Some, None, [], false, length, min};
 ghost use Rattle.outside_traits.specs.Faults.{Rose};
 ghost use Rattle.packet_framing.specs.Packets.{packets};
 ghost use Rattle.session_laws.specs.IsLawful.{IsLawful};
 ghost use Rattle.session_model.specs.declared.limits.Limits.{Limits as TheLimits};
-ghost use Rattle.session_model.specs.Journal.{run as run_of};
+ghost use Rattle.server_laws.specs.Small.{FitsPacket, are_short};
+ghost use Rattle.session_model.specs.Journal.{outputs, run as run_of};
 ghost use Rattle.session_model.specs.Legal.{IsLegalFrom};
 ghost use Rattle.session_model.specs.Pipe.{pipe_journal};
 ghost use Rattle.server_rules.specs.Rules.{rules};
@@ -63,6 +64,12 @@ pub fn run<S: Source, K: Sink>(
     // What was written are the packets of the outputs of the journal's run, or a beginning of them where writing failed.
     ensures written { (octets : List ℕ) → Wrote (K.written output.old) (K.written output.new) octets → IsWritten result.status image result.journal octets }
     ensures sent { (octets : List ℕ) → Wrote (K.written output.old) (K.written output.new) octets → result.sent ≡ min (length octets) (2 ^ 64 - 1) }
+
+    // Each output fits a packet. An image that names a package with more than 2^20 octets is refused before anything is read.
+    ensures framed { All FitsPacket (outputs rules image result.journal) }
+    ensures long_names { (limits : TheLimits) → limits_of words.now ≡ Some limits → are_short image.packages ≡ false
+        → (result.status ≡ Status.NoMemory) × (result.journal ≡ []) × (result.taken ≡ 0) × (result.sent ≡ 0) × (result.image ≡ image)
+        × (input.new ≡ input.old) × (output.new ≡ output.old) }
 
     // At the end of the input all is served.
     ensures ended { IsEnded result.status (S.ended input.new) (run_of rules image result.journal) }

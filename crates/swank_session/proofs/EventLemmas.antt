@@ -2,7 +2,8 @@
 use Rattle.std.proofs.Common.{◌≡◌, ◌≢◌, ℕ, zero, suc, ◌+◌, ◌-◌, ◌^◌, ◌<◌, ◌≤◌, min, Bool, true, false, List, [], ◌∷◌, ◌++◌, length, map, flat_map, Option, Some, None, Result, Ok, Err, refl, sym, ap, ◌∙◌, subst, append_assoc, append-nil, length-append, arith}
 use Rattle.std.proofs.lemmas.Grind.{flat_map-append}
 use Rattle.std.proofs.lemmas.Bool.Decides.{nat_tests}
-use Rattle.std.specs.Prelude.{◌&&◌, ◌||◌, not, nat_lt, OnOk}
+use Rattle.std.specs.Prelude.{◌&&◌, ◌||◌, not, nat_lt, All, OnOk}
+use Rattle.std.proofs.lemmas.List.Elements.{All-tail}
 use mathlib.Core.List.{IsPrefix}
 use Rattle.outside_traits.specs.Told.{BothTold}
 use Rattle.packet_framing.specs.Frames.{packet_of}
@@ -13,7 +14,7 @@ use Rattle.session_model.specs.declared.event.Entry.{Entry}
 use Rattle.session_model.specs.declared.event.Event.{Event}
 use Rattle.session_model.specs.declared.event.Event.TheVariants.{Arrive, End, Lend, Burst, Drain}
 use Rattle.session_model.specs.Journal.{arrived, arrivals, next, outputs, run, steps_of, steps_made}
-use Rattle.session_model.specs.Legal.{is_quiet, max_burst}
+use Rattle.session_model.specs.Legal.{IsLegalFrom, is_quiet, max_burst}
 use Rattle.session_model.specs.Pipe.{Cursor, burst_length, by_pipe, next_ready}
 use Rattle.session_model.specs.Wire.{text_of, frames}
 use Rattle.session_model.specs.World.{World, thread_at}
@@ -21,11 +22,13 @@ use Rattle.session_model.proofs.Ended.{arrives_ended, lends_ended, bursts_ended}
 use Rattle.session_model.proofs.Loans.{NoneLent, arrives_free, lends_free, bursts_free}
 use Rattle.session_model.proofs.Outputs.{outputs_are_written}
 use Rattle.session_model.proofs.PipeLegal.{burst_most}
+use Rattle.server_laws.specs.Small.{AreSmall, FitsPacket, HasShortNames, IsSmall}
+use Rattle.server_laws.proofs.Sessions.{outputs_fit}
 use Rattle.server_rules.specs.Rules.{rules}
 use Rattle.swank_core.specs.Session.{Session, Adds, blocked, is_closed, is_full, refusal, with_entry, world}
 use Rattle.swank_core.specs.declared.fault.CoreFault.{CoreFault}
 use Rattle.swank_core.specs.declared.fault.CoreFault.TheVariants as fault
-use Rattle.swank_session.specs.Course.{between, steps_left, whole, IsLive, IsFree, IsPaused, Later, Reaches, IsStuck, closed, full, spent, Halts, halt_of, Sent, Writes, Paid, Pays}
+use Rattle.swank_session.specs.Course.{between, steps_left, whole, IsFramed, IsLive, IsFree, IsPaused, Later, Reaches, IsStuck, closed, full, spent, Halts, halt_of, Sent, Writes, Paid, Pays}
 use Rattle.swank_session.specs.Promises.{IsCut}
 use Rattle.swank_session.specs.declared.ends.Halt.{Halt}
 use Rattle.swank_session.specs.declared.ends.Halt.TheVariants as halt
@@ -53,8 +56,20 @@ later-entry s new e is none same = record {
 steps-entry : (s new : Session) (e : Event) → new ≡ with_entry s 0 e → steps_made new.journal ≡ steps_made s.journal + steps_of e
 steps-entry s new e is = ap (λ (x : Session). steps_made x.journal) is ∙ steps_made-last s.journal (by_pipe e)
 
-live-entry : (s new : Session) (e : Event) → new ≡ with_entry s 0 e → steps_made s.journal + steps_of e ≤ s.limits.steps → IsLive s → IsLive new
-live-entry s new e is within live = record {
+-- the beginning of small messages, and small ones behind it
+small-append : (ms ns : List FromEmacs) → AreSmall ms → AreSmall ns → AreSmall (ms ++ ns)
+small-append [] ns h k = k
+small-append (m ∷ ms) ns h k = (h.0, small-append ms ns h.1 k)
+
+framed-entry : (s new : Session) (e : Event) → new ≡ with_entry s 0 e → AreSmall (arrived e []) → IsFramed s → IsFramed new
+framed-entry s new e is small h = record {
+  names = subst HasShortNames (sym (ap (λ (x : Session). x.opened) is)) h.names;
+  small = subst AreSmall (sym (ap (λ (x : Session). arrivals x.journal) is ∙ arrivals-last s.journal (by_pipe e))) (small-append (arrivals s.journal) (arrived e []) h.small small);
+}
+
+live-entry : (s new : Session) (e : Event) → new ≡ with_entry s 0 e → AreSmall (arrived e []) → steps_made s.journal + steps_of e ≤ s.limits.steps → IsLive s → IsLive new
+live-entry s new e is small within live = record {
+  framed = framed-entry s new e is small live.framed;
   whole = ap (λ (x : Session). x.failed) is ∙ live.whole;
   running = ap (λ (x : Session). x.halted) is ∙ live.running;
   within = within_limit (steps-entry s new e is) (ap (λ (x : Session). x.limits.steps) is) within;
@@ -91,7 +106,7 @@ pub drained-by : (s new : Session) (batch : List ToEmacs) → batch ≡ (world s
 drained-by s new batch are is some room =
     let w = at-world s new (Drain (length batch)) is in
     let e : new ≡ with_entry s 0 (Drain (length (world s).undrained)) = is ∙ ap (λ (x : List ToEmacs). with_entry s 0 (Drain (length x))) are in
-    let live : IsLive s → IsLive new = λ l. live-entry s new (Drain (length batch)) is (no_step (steps_made s.journal) s.limits.steps l.within) l in
+    let live : IsLive s → IsLive new = λ l. live-entry s new (Drain (length batch)) is tt (no_step (steps_made s.journal) s.limits.steps l.within) l in
     record {
       undrained = ap (λ (x : World). x.undrained) w;
       drained = ap (λ (x : World). x.drained) w ∙ ap (λ (x : List ToEmacs). (world s).drained ++ x) (sym are);
@@ -102,6 +117,18 @@ drained-by s new batch are is some room =
       closed = ap (λ (x : World). x.closed) w;
       last = ap (λ (x : Session). x.journal) is;
     }
+
+-- what was drained fits packets
+pub batch-fits : (s new : Session) (batch : List ToEmacs) → Drained s new batch → IsFramed new → IsLegalFrom rules new.opened new.journal → All FitsPacket batch
+batch-fits s new batch d framed legal =
+    let all : All FitsPacket (outputs rules new.opened new.journal) = outputs_fit new.opened new.journal framed.names framed.small legal in
+    let parts : outputs rules new.opened new.journal ≡ (world s).drained ++ batch =
+    outputs_are_written rules new.opened new.journal ∙ ap (λ (ms : List ToEmacs). (world new).drained ++ ms) d.undrained ∙ append-nil (world new).drained ∙ d.drained in
+    All-behind (world s).drained batch (subst (All FitsPacket) parts all)
+  where
+    All-behind : (ms ns : List ToEmacs) → All FitsPacket (ms ++ ns) → All FitsPacket ns
+    All-behind [] ns h = h
+    All-behind (m ∷ ms) ns h = All-behind ms ns (All-tail FitsPacket m (ms ++ ns) h)
 
 -- ---- a loan and its burst
 
@@ -124,7 +151,7 @@ lent-by s new t h is =
       closed = ap (λ (x : World). x.closed) w ∙ silent.closed;
       free = subst (λ (x : World). NoneLent (Some t) x.threads) (sym w) (lends_free (world s) 0 t (thread_at (world s) t) h.free);
       later = later-entry s new (Lend t) is refl (ap (λ (x : World). x.ended) (world-entry s 0 (Lend t)) ∙ lends_ended (world s) 0 t (thread_at (world s) t));
-      live = live-entry s new (Lend t) is (no_step (steps_made s.journal) s.limits.steps h.live.within) h.live;
+      live = live-entry s new (Lend t) is tt (no_step (steps_made s.journal) s.limits.steps h.live.within) h.live;
       left = same_left (steps_made new.journal) (steps_made s.journal) new.limits.steps s.limits.steps (steps-entry s new (Lend t) is) (ap (λ (x : Session). x.limits.steps) is);
     }
   where
@@ -144,7 +171,7 @@ ran-by s new t n live h is =
       drained = ap (λ (x : World). x.drained) w ∙ bursts_drained rules (world s) t n;
       free = subst (λ (x : World). NoneLent None x.threads) (sym w) (bursts_free rules (world s) t n h);
       later = later-entry s new (Burst t n) is refl (ap (λ (x : World). x.ended) (world-entry s 0 (Burst t n)) ∙ bursts_ended rules (world s) t n);
-      live = λ most. live-entry s new (Burst t n) is (fits live.within most) live;
+      live = λ most. live-entry s new (Burst t n) is tt (fits live.within most) live;
     }
   where
     fits : {a b m : ℕ} → a ≤ b → m ≤ b - a → a + m ≤ b
@@ -162,8 +189,8 @@ pub record Came (s new : Session) (m : FromEmacs) : Type 0 where
   pub ended : (world new).ended ≡ (world s).ended
   pub free : IsFree new
 
-pub came-by : (s new : Session) (m : FromEmacs) → IsFree s → new ≡ with_entry s 0 (Arrive m) → Came s new m
-came-by s new m h is =
+pub came-by : (s new : Session) (m : FromEmacs) → IsSmall m → IsFree s → new ≡ with_entry s 0 (Arrive m) → Came s new m
+came-by s new m small h is =
     let w = at-world s new (Arrive m) is in
     record {
       opened = ap (λ (x : Session). x.opened) is;
@@ -174,7 +201,7 @@ came-by s new m h is =
       arrived = ap (λ (x : Session). arrivals x.journal) is ∙ arrivals-last s.journal (by_pipe (Arrive m));
       ended = ap (λ (x : World). x.ended) w ∙ arrives_ended (world s) m;
       free = record {
-        live = live-entry s new (Arrive m) is (no_step (steps_made s.journal) s.limits.steps h.live.within) h.live;
+        live = live-entry s new (Arrive m) is (small, tt) (no_step (steps_made s.journal) s.limits.steps h.live.within) h.live;
         free = subst (λ (x : World). NoneLent None x.threads) (sym w) (arrives_free None (world s) m h.free);
       };
     }
@@ -200,7 +227,7 @@ over-by s new h is =
       ended = ap (λ (x : World). x.ended) w;
       paused = record {
         free = record {
-          live = live-entry s new End is (no_step (steps_made s.journal) s.limits.steps h.free.live.within) h.free.live;
+          live = live-entry s new End is tt (no_step (steps_made s.journal) s.limits.steps h.free.live.within) h.free.live;
           free = subst (λ (x : World). NoneLent None x.threads) (sym w) h.free.free;
         };
         drained = ap (λ (x : World). x.undrained) w ∙ h.drained;

@@ -15,6 +15,7 @@ use Rattle.session_model.specs.Journal.{arrivals}
 use Rattle.session_model.specs.Pipe.{Cursor, pipe_journal}
 use Rattle.session_model.specs.World.{World, Thread, thread_in}
 use Rattle.session_model.proofs.Loans.{NoneLent, IsFree}
+use Rattle.server_laws.specs.Small.{HasShortNames}
 use Rattle.server_rules.specs.Rules.{rules}
 use Rattle.swank_core.specs.Session.{Session, opening, world}
 use Rattle.swank_session.specs.Course.{between, whole, IsAtRest, Arrives, IsOverAfter, Reaches, Fed, Serves, Ends, BringsRest, is_told, Ran, Completes, Finishes, Spends, Paid, Pays}
@@ -51,19 +52,19 @@ free-at-first image limits zero ne = tt
 free-at-first image limits (suc zero) ne = refl
 free-at-first image limits (suc (suc u)) ne = tt
 
-rest-at-first : (image : ImageState) (limits : Limits) → IsAtRest (opening image limits)
-rest-at-first image limits = record {
+rest-at-first : (image : ImageState) (limits : Limits) → HasShortNames image → IsAtRest (opening image limits)
+rest-at-first image limits names = record {
   paused = record {
-    free = record { live = record { whole = refl; running = refl; within = omega arith }; free = free-at-first image limits };
+    free = record { live = record { framed = record { names = names; small = tt }; whole = refl; running = refl; within = omega arith }; free = free-at-first image limits };
     drained = refl;
   };
   open_ = refl;
   quiet = refl;
 }
 
-pub serves-first : (image : ImageState) (limits : Limits) (left : Option (List ℕ)) (kept : List ℕ) (ended : Bool) (s : Session) → kept ≡ [] → s ≡ opening image limits → Serves left left kept 0 ended s s
-serves-first image limits left kept ended s none is = subst (λ (x : Session). Serves left left kept 0 ended x x) (sym is) (record {
-  rest = rest-at-first image limits;
+pub serves-first : (image : ImageState) (limits : Limits) (left : Option (List ℕ)) (kept : List ℕ) (ended : Bool) (s : Session) → HasShortNames image → kept ≡ [] → s ≡ opening image limits → Serves left left kept 0 ended s s
+serves-first image limits left kept ended s names none is = subst (λ (x : Session). Serves left left kept 0 ended x x) (sym is) (record {
+  rest = rest-at-first image limits names;
   opened = refl;
   limits = refl;
   more = refl;

@@ -23,6 +23,8 @@ use Rattle.sexp_reader.specs.Grammar.{Spells, Items, IsSpelled}
 use Rattle.sexp_reader.specs.declared.fault.ReadFault.{ReadFault}
 use Rattle.sexp_reader.specs.declared.fault.ReadFault.TheVariants as fault
 use Rattle.sexp_reader.proofs.Total.{one-or-fault}
+use Rattle.server_laws.specs.Small.{AreSmall}
+use Rattle.server_laws.proofs.Payloads.{message_small}
 use Rattle.swank_session.specs.Stream.{Reading, message_read, message_if_text, message_of, messages}
 
 -- ---- the messages are those of the payloads
@@ -219,3 +221,10 @@ all-may (payload ∷ payloads) = (message-may (message_of-is payload), all-may p
 
 pub messages-may : (octets : List ℕ) → AllMayArrive (messages octets)
 messages-may octets = all-may (packets octets).payloads
+
+all-small : (payloads : List (List ℕ)) → AreSmall (map message_of payloads)
+all-small [] = tt
+all-small (payload ∷ payloads) = (message_small (message_of-is payload), all-small payloads)
+
+pub messages-small : (octets : List ℕ) → AreSmall (messages octets)
+messages-small octets = all-small (packets octets).payloads

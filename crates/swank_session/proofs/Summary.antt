@@ -1,14 +1,18 @@
 -- What a run leaves, said of its journal.
 use Rattle.std.proofs.Common.{◌≡◌, ◌≢◌, ℕ, ◌+◌, ◌-◌, ◌^◌, ◌<◌, ◌≤◌, min, ◌⊎◌, Bool, true, false, List, [], ◌∷◌, ◌++◌, length, Option, Some, None, Result, Ok, Err, refl, sym, ap, ◌∙◌, subst, append-nil, arith}
+use Rattle.std.specs.Prelude.{All}
 use Rattle.outside_traits.specs.Faults.{Rose}
 use Rattle.outside_traits.specs.Told.{BothTold}
 use Rattle.packet_framing.specs.Packets.{packets}
 use Rattle.step_model.specs.Image.{ImageState}
 use Rattle.session_model.specs.declared.event.Entry.{Entry}
 use Rattle.session_model.specs.declared.limits.Limits.{Limits}
-use Rattle.session_model.specs.Journal.{run}
+use Rattle.session_model.specs.Journal.{arrivals, outputs, run}
 use Rattle.session_model.specs.Legal.{IsLegalFrom}
 use Rattle.session_model.specs.Pipe.{pipe_journal}
+use Rattle.server_laws.specs.Small.{AreSmall, FitsPacket, HasShortNames}
+use Rattle.server_laws.proofs.Payloads.{beginning_small}
+use Rattle.server_laws.proofs.Sessions.{outputs_fit}
 use Rattle.server_rules.specs.Rules.{rules}
 use Rattle.swank_core.specs.Session.{Session, opening, world}
 use Rattle.swank_session.specs.Causes.{IsBroken, IsBrokenOrFull, IsStopped, IsDue, IsFull, IsSpent, IsBadInput, IsCutInput, IsLongInput, IsAllServed, NoFault, NoLimit}
@@ -22,6 +26,7 @@ use Rattle.swank_session.specs.declared.ends.InputEnd.TheVariants as input
 use Rattle.swank_session.specs.declared.outcome.Status.{Status}
 use Rattle.swank_session.specs.declared.outcome.Status.TheVariants as status
 use Rattle.swank_session.proofs.OutcomeLemmas as of
+use Rattle.swank_session.proofs.StreamLemmas.{messages-small}
 
 -- the session with this journal
 abbrev pub session : ImageState → Limits → List Entry → (failed halted : Bool) → Session
@@ -82,6 +87,12 @@ module _ {image : ImageState} {limits : Limits} {j : List Entry} {left0 left1 : 
     (x : Summary image limits j left0 left1 taken ended written0 written1 sent end result) where
   pub is-legal : IsLegalFrom rules image j
   is-legal = of.ran-legal left0 left1 taken ended (session image limits j x.failed x.halted) result x.ran
+
+  -- each output fits a packet
+  pub is-framed : HasShortNames image → All FitsPacket (outputs rules image j)
+  is-framed names =
+      let small : AreSmall (arrivals j ++ x.ran.lacked) = subst AreSmall (sym x.ran.is) (messages-small x.ran.octets) in
+      outputs_fit image j names (beginning_small (arrivals j) x.ran.lacked small) is-legal
 
   pub is-read : (octets : List ℕ) → Took left0 left1 octets → IsRead end ended octets image j
   is-read = of.ran-read left0 left1 taken ended (session image limits j x.failed x.halted) result x.ran end x.comes

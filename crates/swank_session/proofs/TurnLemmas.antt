@@ -14,6 +14,7 @@ use Rattle.session_model.specs.Pipe.{Cursor, burst_length, next_ready}
 use Rattle.session_model.specs.World.{World, thread_at}
 use Rattle.session_model.proofs.PipeLegal.{burst_most}
 use Rattle.session_model.proofs.PipeRests.{quiet_when}
+use Rattle.server_laws.specs.Small.{IsSmall}
 use Rattle.server_rules.specs.Rules.{rules}
 use Rattle.swank_core.specs.Session.{Session, Adds, blocked, is_closed, next_ready_of, ready_above, with_entry, world}
 use Rattle.swank_core.specs.declared.fault.CoreFault.{CoreFault}
@@ -243,9 +244,9 @@ pub record Came_in (s new : Session) (m : FromEmacs) : Type 0 where
   pub room : length new.journal < new.limits.journal
   pub same : (messages : List FromEmacs) (ends : Bool) → whole new (between messages ends 0) ≡ whole s (between (m ∷ messages) ends 0)
 
-pub came-in : (s new : Session) (m : FromEmacs) → IsAtRest s → blocked s ≡ None → new ≡ with_entry s 0 (Arrive m) → Came_in s new m
-came-in s new m rest free is =
-    let came = came-by s new m rest.paused.free is in
+pub came-in : (s new : Session) (m : FromEmacs) → IsSmall m → IsAtRest s → blocked s ≡ None → new ≡ with_entry s 0 (Arrive m) → Came_in s new m
+came-in s new m small rest free is =
+    let came = came-by s new m small rest.paused.free is in
     let room = room-left s free in
     let more = came.longer in
     record {

@@ -16,6 +16,7 @@ use Rattle.session_model.specs.Pipe.{Cursor, pipe_journal, schedule}
 use Rattle.session_model.specs.Wire.{frames}
 use Rattle.session_model.specs.World.{World}
 use Rattle.session_model.proofs.Loans.{NoneLent}
+use Rattle.server_laws.specs.Small.{AreSmall, HasShortNames}
 use Rattle.server_rules.specs.Rules.{rules}
 use Rattle.swank_core.specs.Session.{Session, world}
 use Rattle.swank_core.specs.declared.fault.CoreFault.{CoreFault}
@@ -43,8 +44,14 @@ whole s c = s.journal ++ schedule rules (s.limits.journal - length s.journal) (w
 abbrev pub between : List FromEmacs → Bool → ℕ → Cursor
 between messages ends reached = record { messages = messages; ends = ends; reached = reached; lent = None; steps = 0 }
 
+-- the names of its packages were short and what arrived was small, so that each message it writes fits a packet
+pub record IsFramed (s : Session) : Type 0 where
+  pub names : HasShortNames s.opened
+  pub small : AreSmall (arrivals s.journal)
+
 -- a session that goes on
 pub record IsLive (s : Session) : Type 0 where
+  pub framed : IsFramed s
   pub whole : s.failed ≡ false
   pub running : s.halted ≡ false
   pub within : steps_made s.journal ≤ s.limits.steps

@@ -9,6 +9,8 @@ pub enum Status {
     Ok,
     /// The words are no command.
     Usage,
+    /// Memory was wanting, or the package names of the image are not short, so that a reply could be too long for a packet: one has more
+    /// than 2^20 octets, or COMMON-LISP-USER is missing. Such an image is refused before anything is read; see `long_names` of `run_pipe`.
     NoMemory,
     /// The source failed.
     ReadFault,
@@ -26,7 +28,8 @@ pub enum Status {
     JournalFull,
 }
 
-/// What a session leaves behind. Nothing is said of the image where memory was wanting.
+/// What a session leaves behind. Nothing is said of the image where memory was wanting; an image that was refused for its package names
+/// is handed back as it was.
 #[derive(Drop)]
 pub struct Outcome {
     pub status: Status,

@@ -1,12 +1,13 @@
-ghost use Rattle.std.specs.Prelude.{◌≡◌, ◌≢◌, ◌≤◌, ◌-◌, ◌^◌, ◌⊎◌, ℕ, List, Some, [], false, length, min};
+ghost use Rattle.std.specs.Prelude.{◌≡◌, ◌≢◌, ◌≤◌, ◌-◌, ◌^◌, ◌⊎◌, ℕ, List, All, Some, [], false, length, min, IfErr, IfOk, OnOk};
 ghost use Rattle.outside_traits.specs.Faults.{Rose};
 ghost use Rattle.packet_framing.specs.Packets.{packets};
 ghost use Rattle.session_laws.specs.IsLawful.{IsLawful};
-ghost use Rattle.session_model.specs.Journal.{run};
+ghost use Rattle.server_laws.specs.Small.{FitsPacket, HasShortNames, are_short};
+ghost use Rattle.session_model.specs.Journal.{outputs, run};
 ghost use Rattle.session_model.specs.Legal.{IsLegalFrom};
 ghost use Rattle.session_model.specs.Pipe.{pipe_journal};
 ghost use Rattle.server_rules.specs.Rules.{rules};
-ghost use Rattle.swank_core.specs.Session.{AreLimits, world};
+ghost use Rattle.swank_core.specs.Session.{AreLimits, opening, world};
 ghost use Rattle.swank_session.specs.Causes.{IsAllServed, IsBadInput, IsBroken, IsBrokenOrFull, IsCutInput, IsDue, IsFull, IsLongInput, IsSpent, IsStopped, NoFault, NoLimit};
 ghost use Rattle.swank_session.specs.Course as course;
 ghost use Rattle.swank_session.specs.Course.{Finishes};
@@ -18,6 +19,7 @@ use crate::reading::{Counts, serve};
 use crate::{Outcome, Status};
 use lisp_image::Image;
 use outside_traits::{Sink, Source};
+use server_laws::has_short_names;
 use session_laws::each_journal_is_lawful;
 use session_model::Limits;
 use std::alloc::Global;
@@ -78,6 +80,22 @@ fn status_for(core: &Core, limits: &Limits, end: Result<InputEnd, Halt>) -> Stat
     }
 }
 
+/// A session over this image, which is handed back where it has a long package name, or memory is wanting.
+fn begin(alloc: Global, image: Image, limits: &Limits) -> Result<Core, Image>
+    requires limits { AreLimits limits.now }
+    ensures ok { IfOk result (λ core. core ≡ opening image limits.now) }
+    ensures short { OnOk result (HasShortNames image) }
+    ensures err { IfErr result (λ back. back ≡ image) }
+{
+    if !has_short_names(&image) {
+        return Err(image);
+    }
+    match Core::open(alloc, image, limits) {
+        Ok(core) => Ok(core),
+        Err(back) => Err(back),
+    }
+}
+
 /// A whole session: the messages of a source are served by one schedule, and the packets of what is answered are written to a sink.
 ///
 /// Octets are told where the source and the sink tell them; over those that tell nothing what is said of the journal alone holds, and of the
@@ -102,6 +120,12 @@ pub fn run_pipe<S: Source, K: Sink>(
     // What was written are the packets of the outputs of the journal's run, or a beginning of them where writing failed.
     ensures written { (octets : List ℕ) → Wrote (K.written output.old) (K.written output.new) octets → IsWritten result.status image result.journal octets }
     ensures sent { (octets : List ℕ) → Wrote (K.written output.old) (K.written output.new) octets → result.sent ≡ min (length octets) (2 ^ 64 - 1) }
+
+    // Each output fits a packet. An image that names a package with more than 2^20 octets is refused before anything is read.
+    ensures framed { All FitsPacket (outputs rules image result.journal) }
+    ensures long_names { are_short image.packages ≡ false
+        → (result.status ≡ Status.NoMemory) × (result.journal ≡ []) × (result.taken ≡ 0) × (result.sent ≡ 0) × (result.image ≡ image)
+        × (input.new ≡ input.old) × (output.new ≡ output.old) }
 
     // At the end of the input all is served.
     ensures ended { IsEnded result.status (S.ended input.new) (run rules image result.journal) }
@@ -132,7 +156,7 @@ pub fn run_pipe<S: Source, K: Sink>(
         → NoLimit limits.now result.journal result.taken → (result.status ≡ Status.Ok) ⊎ (result.status ≡ Status.NoMemory) }
 {
     each_journal_is_lawful();
-    match Core::open(alloc, image, limits) {
+    match begin(alloc, image, limits) {
         Err(image) => Outcome {
             status: Status::NoMemory,
             image,

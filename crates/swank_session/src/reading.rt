@@ -1,5 +1,6 @@
 ghost use Rattle.std.specs.Prelude.{◌≡◌, ◌≤◌, Ok, Err};
 ghost use Rattle.outside_traits.specs.Faults.{Rose};
+ghost use Rattle.server_laws.specs.Small.{HasShortNames};
 ghost use Rattle.swank_core.specs.Session.{opening};
 ghost use Rattle.swank_session.specs.Course.{Completes};
 
@@ -29,6 +30,7 @@ pub fn serve<S: Source, K: Sink>(
     counts: &mut Counts,
 ) -> Result<InputEnd, Halt>
     requires fresh { core.old ≡ opening core.old.opened limits.now }
+    requires names { HasShortNames core.old.opened }
     requires none { counts.old.taken ≡ 0 }
     ensures completes { Completes (S.left input.old) (S.left input.new) (S.ended input.new) (K.written output.old) (K.written output.new) counts.new.taken counts.old.sent counts.new.sent core.old core.new result }
     ensures read_later { S.faults input.old ≤ S.faults input.new }

@@ -1,6 +1,7 @@
 ghost use Rattle.std.specs.Prelude.{◌≡◌, ◌<◌, ◌≤◌, ℕ, Bool, List, [], ◌∷◌, true, false, Some, Err, IfSome, OnOk};
 ghost use Rattle.outside_traits.specs.Faults.{Rose};
 ghost use Rattle.rpc_messages.specs.declared.from_emacs.FromEmacs.{FromEmacs as AnyMessage};
+ghost use Rattle.server_laws.specs.Small.{IsSmall};
 ghost use Rattle.session_model.specs.Legal.{MayArrive, is_ready};
 ghost use Rattle.session_model.specs.Pipe.{next_ready};
 ghost use Rattle.swank_core.specs.Session.{world};
@@ -110,6 +111,7 @@ pub fn take_message<K: Sink>(
     requires limits { core.old.limits ≡ limits.now }
     requires more { (world core.old).ended ≡ false }
     requires may { MayArrive m }
+    requires small { IsSmall m }
     ensures arrives { Arrives core.old core.new m result }
     ensures spends { Spends core.old core.new (K.written output.old) (K.written output.new) sent.old sent.new result }
     ensures reaches { (messages : List AnyMessage) (ends : Bool) → Reaches core.old core.new result (λ _. between messages ends 0) (between (m ∷ messages) ends 0) }

@@ -1,13 +1,17 @@
 use Rattle.std.proofs.Common.{◌≡◌, ◌∙◌, ℕ, List, Err, refl, sym, ap, subst}
+use Rattle.std.proofs.lemmas.Bool.{true≢false}
+use Rattle.std.proofs.lemmas.List.Elements.{All-nil}
+use Rattle.std.specs.Prelude.{All}
 use Rattle.session_model.specs.declared.event.Entry.{Entry}
-use Rattle.session_model.specs.Journal.{run}
+use Rattle.session_model.specs.Journal.{outputs, run}
+use Rattle.server_laws.specs.Small.{FitsPacket, HasShortNames}
 use Rattle.server_rules.specs.Rules.{rules}
 use Rattle.swank_core.specs.Session.{Session}
 use Rattle.swank_session.specs.declared.ends.Halt.TheVariants as halt
 use Rattle.swank_session.specs.declared.outcome.Status.{Status}
 use Rattle.swank_session.specs.declared.outcome.Status.TheVariants as status
 use Rattle.swank_session.proofs.OutcomeLemmas.{Comes, alive-unless, comes}
-use Rattle.swank_session.proofs.Summary.{Summary, summary-of, summary-none, is-read, is-taken, is-written, is-sent, is-ended, is-scheduled, is-ok, is-bad, is-cut, is-long, is-spent, is-full, is-no_usage, read-fault, write-fault, is-complete}
+use Rattle.swank_session.proofs.Summary.{Summary, summary-of, summary-none, is-framed, is-read, is-taken, is-written, is-sent, is-ended, is-scheduled, is-ok, is-bad, is-cut, is-long, is-spent, is-full, is-no_usage, read-fault, write-fault, is-complete}
 use Rattle.swank_session.proofs.pipe.run_pipe.Given.{Over}
 use Rattle.swank_session.proofs.pipe.run_pipe.Goals as goal
 
@@ -35,7 +39,16 @@ returns-in-Err-clause-sent g c = is-sent (unopened g c)
 pub returns-in-Err-clause-scheduled : goal.returns-in-Err-clause-scheduled
 returns-in-Err-clause-scheduled g c = is-scheduled (unopened g c)
 
+pub returns-in-Err-clause-framed : goal.returns-in-Err-clause-framed
+returns-in-Err-clause-framed g c = subst (λ (j : List Entry). All FitsPacket (outputs rules c.args.image j)) (sym c.new.ensures) (All-nil FitsPacket)
+
+pub returns-in-Err-clause-long_names : goal.returns-in-Err-clause-long_names
+returns-in-Err-clause-long_names g c long = (refl, c.new.ensures, refl, refl, c.in-Err.ensures.err, refl, refl)
+
 -- ---- one that was run
+
+pub serve-end-requires-clause-names : goal.serve-end-requires-clause-names
+serve-end-requires-clause-names g c = subst HasShortNames (sym (ap (λ (x : Session). x.opened) c.in-Ok.ensures.ok)) c.in-Ok.ensures.short
 
 served : (g : Over) (c : goal.After-into_parts-image g)
     → Summary c.args.image c.args.limits.now c.into_parts-image.result.1 (g.S.Source.left c.args.input.now) (g.S.Source.left c.serve-end.new.input) c.serve-end.new.counts.taken (g.S.Source.ended c.serve-end.new.input)
@@ -47,6 +60,12 @@ served g c =
 
 pub returns-in-Ok-clause-read : goal.returns-in-Ok-clause-read
 returns-in-Ok-clause-read g c = is-read (served g c)
+
+pub returns-in-Ok-clause-framed : goal.returns-in-Ok-clause-framed
+returns-in-Ok-clause-framed g c = is-framed (served g c) c.in-Ok.ensures.short
+
+pub returns-in-Ok-clause-long_names : goal.returns-in-Ok-clause-long_names
+returns-in-Ok-clause-long_names g c long = absurd (true≢false (sym c.in-Ok.ensures.short ∙ long))
 
 pub returns-in-Ok-clause-taken : goal.returns-in-Ok-clause-taken
 returns-in-Ok-clause-taken g c = is-taken (served g c)

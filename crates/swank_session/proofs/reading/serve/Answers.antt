@@ -1,5 +1,6 @@
 use Rattle.std.proofs.Common.{◌≡◌, ◌∙◌, ℕ, List, inl, Ok, Err, refl, sym, ap, subst, arith}
 use Rattle.inlet.specs.declared.pumping.Pumped.TheVariants as pumped
+use Rattle.server_laws.proofs.Payloads.{message_small}
 use Rattle.swank_core.specs.Session.{Session}
 use Rattle.swank_session.specs.Course.{Serves}
 use Rattle.swank_session.specs.declared.ends.InputEnd.TheVariants as input
@@ -12,7 +13,7 @@ pub loop-m-init : goal.loop-m-init
 loop-m-init g c =
     let core = c.args.core.now in record {
       serves = subst (λ (n : ℕ). Serves (g.S.Source.left c.args.input.now) (g.S.Source.left c.args.input.now) c.new-decoder.result n (g.S.Source.ended c.args.input.now) core core) (sym c.requires.none)
-          (serves-first core.opened c.args.limits.now (g.S.Source.left c.args.input.now) c.new-decoder.result (g.S.Source.ended c.args.input.now) core c.new-decoder.ensures c.requires.fresh);
+          (serves-first core.opened c.args.limits.now (g.S.Source.left c.args.input.now) c.new-decoder.result (g.S.Source.ended c.args.input.now) core c.requires.names c.new-decoder.ensures c.requires.fresh);
       limits = ap (λ (s : Session). s.limits) c.requires.fresh;
       paid = λ first p. p;
       within = omega (arith, c.requires.none);
@@ -126,6 +127,9 @@ returns-in-Truncated-clause-completes g c =
 
 pub take_message-requires-clause-may : goal.take_message-requires-clause-may
 take_message-requires-clause-may g c = message-may c.in-Message.ensures.pumps.answer.is
+
+pub take_message-requires-clause-small : goal.take_message-requires-clause-small
+take_message-requires-clause-small g c = message_small c.in-Message.ensures.pumps.answer.is
 
 pub returns-in-Err-take_message-clause-completes : goal.returns-in-Err-take_message-clause-completes
 returns-in-Err-take_message-clause-completes g c =

@@ -1,9 +1,16 @@
 use Rattle.std.proofs.Common.{◌≡◌, List, refl, sym, ap, ◌∙◌, subst, arith}
+use Rattle.std.specs.Prelude.{All}
 use Rattle.rpc_messages.specs.declared.to_emacs.ToEmacs.{ToEmacs}
+use Rattle.server_laws.specs.Small.{FitsPacket}
 use Rattle.swank_session.specs.Course.{Writes}
-use Rattle.swank_session.proofs.EventLemmas.{Drained, drained-by, later-same}
+use Rattle.swank_session.proofs.EventLemmas.{batch-fits, Drained, drained-by, later-same}
 use Rattle.swank_session.proofs.TurnLemmas.{out-spends, out-reaches, out-paused, none-spends, none-paused}
 use Rattle.swank_session.proofs.writing.write_out.Goals as goal
+
+pub write_batch-requires : goal.write_batch-requires
+write_batch-requires g c =
+    let drained = drained-by c.args.core.now c.drain-batch.new.self c.drain-batch.result c.drain-batch.ensures.outputs c.drain-batch.ensures.adds (omega (arith, c.undrained.ensures)) c.requires.room in
+    record { fit = subst (All FitsPacket) (sym c.as_slice.ensures) (batch-fits c.args.core.now c.drain-batch.new.self c.drain-batch.result drained (drained.free c.requires.free).live.framed c.drain-batch.ensures.legal) }
 
 pub returns-clause-onward : goal.returns-clause-onward
 returns-clause-onward g c = (drained-by c.args.core.now c.drain-batch.new.self c.drain-batch.result c.drain-batch.ensures.outputs c.drain-batch.ensures.adds (omega (arith, c.undrained.ensures)) c.requires.room).later
