@@ -319,7 +319,8 @@ impl Core {
 
     /// The journal so far.
     pub fn journal(&self) -> &Journal
-        ensures { result.now ≡ self.now.journal }
+        ensures entries { result.now ≡ self.now.journal }
+        ensures legal { IsLegalFrom rules self.now.opened self.now.journal }
     {
         &self.journal
     }
