@@ -1,5 +1,5 @@
 -- What the rows give that list items: an item that is read gives what is made of what is read.
-use Rattle.std.proofs.Common.{◌≡◌, Bool, true, false, List, [], ◌∷◌, filter_map, is_some, option_map, refl, sym, ap, ◌∙◌}
+use Rattle.std.proofs.Common.{◌≡◌, true, false, List, [], ◌∷◌, filter_map, is_some, option_map, refl, sym, ap, ◌∙◌}
 use Rattle.std.specs.Prelude.{Option, Some, None, Result, Ok, option_and_then}
 use Rattle.std.specs.List.{cons_option}
 use Rattle.lisp_data.specs.declared.value.Value.{Value}
@@ -8,12 +8,12 @@ use Rattle.syntax_trees.specs.declared.ast.Ast as tree
 use Rattle.syntax_trees.specs.declared.ast.Ast.TheOpen.{Ast-F}
 use Rattle.syntax_trees.specs.declared.ast.Binding.{Binding}
 use Rattle.syntax_trees.specs.declared.ast.Assignment.{Assignment}
-use Rattle.syntax_rows.specs.Reading.{both, each_of, list_of, assigned, readable_of, assignments_of, variable_of, variables_of, clause_of, binding_of, handler_of, handler_clause_of, restart_clause_of}
-use Rattle.syntax_rows.specs.Parsing.{◌>>=◌, each, clause_tree, binding_tree, assignment_tree, handler_tree, handler_clause_tree, restart_clause_tree, trees, planted, parsed}
-use Rattle.syntax_rows.specs.Table.{let_row, handler_bind_row, row_of}
+use Rattle.syntax_rows.specs.Reading.{both, each_of, list_of, assigned, readable_of, assignments_of, variable_of, variables_of}
+use Rattle.syntax_rows.specs.Parsing.{◌>>=◌, each, binding_tree, assignment_tree, trees, planted, parsed}
+use Rattle.syntax_rows.specs.Table.{row_of}
 use Rattle.syntax_rows.proofs.Depths.{parsed-is}
 use Rattle.syntax_rows.proofs.Options.{mapped, joined, some-same}
-use Rattle.form_parser.specs.Items.{read_tree, binding_at_tree, handler_at_tree, assignment_at_tree, assignment_trees}
+use Rattle.form_parser.specs.Items.{read_tree, assignment_at_tree, assignment_trees}
 use Rattle.form_parser.specs.RowTrees.{Shows, given, binder_row, row_tree, with_bindings}
 use Rattle.form_parser.specs.declared.row.Binder.{Binder}
 use Rattle.form_parser.specs.declared.row.Binder.TheVariants as binder

@@ -14,7 +14,6 @@ use Rattle.syntax_trees.specs.declared.ast.HandlerClause.{HandlerClause}
 use Rattle.syntax_trees.specs.declared.ast.RestartClause.{RestartClause}
 use Rattle.syntax_rows.specs.Reading.{clause_of, binding_of, assigned, readable_of, handler_of, handler_clause_of, restart_clause_of, variable_of}
 use Rattle.syntax_rows.specs.Parsing.{◌>>=◌, clause_tree, binding_tree, assignment_tree, handler_tree, handler_clause_tree, restart_clause_tree, parsed}
-use Rattle.form_parser.specs.Lent.{over}
 use Rattle.form_parser.specs.declared.items.ClauseAt.{ClauseAt}
 use Rattle.form_parser.specs.declared.items.InitAt.{InitAt}
 use Rattle.form_parser.specs.declared.items.InitAt.TheVariants as lent

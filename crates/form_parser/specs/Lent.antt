@@ -1,5 +1,5 @@
 -- What the parts stand for that a form lends.
-use Rattle.std.specs.Prelude.{ℕ, map, filter_map, List, codes, Option, option_map, option_copied}
+use Rattle.std.specs.Prelude.{ℕ, map, List, codes, option_map}
 use Rattle.lisp_data.specs.Sexp.{depth_over}
 use Rattle.lisp_data.specs.Value.{depth_of}
 use Rattle.lisp_data.specs.declared.symbol.Symbol.{Symbol}

@@ -1,5 +1,5 @@
 -- The tree of a row whose parts are lent: what `trees` gives of the row that it stands for.
-use Rattle.std.specs.Prelude.{◌≡◌, ℕ, ◌+◌, max, filter_map, List, [], ◌∷◌, Option, Some, None, Result, Ok, Err, option_map, option_copied}
+use Rattle.std.specs.Prelude.{◌≡◌, ℕ, max, filter_map, List, [], ◌∷◌, Option, Some, None, Result, Ok, Err, option_map, option_copied}
 use Rattle.std.specs.Borrow.{Bor}
 use Rattle.lisp_data.specs.declared.value.Value.{Value}
 use Rattle.syntax_trees.specs.declared.ast.Ast.{Ast}

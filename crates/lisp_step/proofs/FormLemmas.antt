@@ -1,6 +1,6 @@
 -- The trees of forms: a tree that is no function's definition has no place, and without a place none has.
-use Rattle.std.proofs.Common.{◌≡◌, ℕ, Bool, false, refl}
-use Rattle.std.specs.Prelude.{Option, Some, None}
+use Rattle.std.proofs.Common.{◌≡◌, ℕ, false, refl}
+use Rattle.std.specs.Prelude.{Option, None}
 use Rattle.step_model.specs.Requests.{placed_found}
 use Rattle.syntax_trees.specs.declared.ast.Ast.{Ast}
 use Rattle.syntax_trees.specs.declared.ast.Ast.TheOpen.{Ast-F}

@@ -1,5 +1,5 @@
 -- The nearest layer that binds a variable dynamically, and the nearest request, one frame further out each time.
-use Rattle.std.proofs.Common.{◌≡◌, ℕ, ◌+◌, ◌<◌, arith, Bool, true, false, List, [], ◌∷◌, ◌++◌, length, reverse, take, get_or, Option, Some, None, refl, sym, ap, ◌∙◌}
+use Rattle.std.proofs.Common.{◌≡◌, ℕ, ◌+◌, ◌<◌, arith, Bool, true, false, List, [], ◌∷◌, ◌++◌, length, reverse, take, get_or, Option, Some, None, refl, ap, ◌∙◌}
 use Rattle.std.specs.Prelude.{if◌then◌else◌, is_some}
 use Rattle.std.specs.Option.{option_or}
 use Rattle.lisp_data.specs.declared.sexp.Sexp.{Sexp}
@@ -11,7 +11,7 @@ use Rattle.term_model.specs.declared.frame.Frame.TheVariants as frame
 use Rattle.term_model.specs.declared.plain.Plain.{Plain}
 use Rattle.term_model.specs.declared.plain.Plain.TheVariants as plain
 use Rattle.term_model.specs.Levels.{form_in, served_form}
-use Rattle.term_model.specs.Search.{Sight, Here, Ends, Past, nearest, seen}
+use Rattle.term_model.specs.Search.{Sight, Here, Past, nearest, seen}
 use Rattle.term_model.specs.Term.{Context}
 use Rattle.term_model.specs.Variables.{dynamic, dynamic_in}
 use Rattle.lisp_step.specs.Nearest.{bound_by, bound_by_plain, requested_by}

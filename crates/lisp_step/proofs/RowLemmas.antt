@@ -1,7 +1,7 @@
 -- A step of the table, row by row, as it is seen on the stack, the mailbox, the image and what is written.
-use Rattle.std.proofs.Common.{◌≡◌, ℕ, Bool, true, false, List, [], ◌∷◌, ◌++◌, map, Option, Some, None, refl, sym, ap, ◌∙◌}
+use Rattle.std.proofs.Common.{◌≡◌, ℕ, Bool, true, false, List, [], ◌∷◌, map, Option, Some, None, refl, sym, ap, ◌∙◌}
 use Rattle.std.proofs.lemmas.List.{append-nil}
-use Rattle.std.specs.Prelude.{ℤ, Result, Ok, Err, ◌&&◌, not, if◌then◌else◌}
+use Rattle.std.specs.Prelude.{Result, Ok, Err, ◌&&◌, not, if◌then◌else◌}
 use Rattle.lisp_data.specs.declared.sexp.Sexp.{Sexp}
 use Rattle.lisp_data.specs.declared.value.Value.{Value}
 use Rattle.lisp_frames.specs.Stack.{StackState, with_context, with_redex, within}
@@ -50,7 +50,7 @@ use Rattle.term_model.specs.Restarts.{Leaving, abort_exit}
 use Rattle.term_model.specs.Room.{levels}
 use Rattle.term_model.specs.Term.{Context}
 use Rattle.lisp_step.specs.Machine.{now_of, stack_of}
-use Rattle.lisp_step.specs.Rows.{Done, answer_if, called_in, carried_or_left, does, ended_in, finished, first_resolved, formed, given, gives, gone, image_if, image_left, image_with, in_plain, leaves, mail_left, part_of, received, request_of, runs, stays, task_of, tree_in, tree_of, tree_with, waited}
+use Rattle.lisp_step.specs.Rows.{Done, answer_if, called_in, carried_or_left, does, ended_in, finished, formed, given, gives, gone, image_if, image_left, image_with, in_plain, leaves, mail_left, part_of, received, request_of, runs, stays, task_of, tree_in, tree_of, tree_with, waited}
 use Rattle.lisp_step.specs.Rows as row
 use Rattle.server_rules.proofs.SimpleLemmas.{abort_exit-simple, exits_to_top, messages-left, no_levels, simple_rest}
 use Rattle.lisp_step.proofs.LevelLemmas.{announced-none}

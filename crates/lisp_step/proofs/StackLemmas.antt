@@ -1,9 +1,9 @@
 -- Going on inside simple layers, as it is seen on the stack.
-use Rattle.std.proofs.Common.{◌≡◌, ℕ, Bool, true, false, List, [], ◌∷◌, Option, Some, None, refl, sym, ap, ◌∙◌}
+use Rattle.std.proofs.Common.{◌≡◌, ℕ, Bool, true, false, List, [], ◌∷◌, Option, Some, None, refl, ap, ◌∙◌}
 use Rattle.std.specs.Prelude.{unwrap_or}
 use Rattle.lisp_data.specs.declared.value.Value.{Value}
-use Rattle.lisp_frames.specs.Resumed.{entered, next_in}
-use Rattle.lisp_frames.specs.Stack.{StackState, outer, with_context, with_redex}
+use Rattle.lisp_frames.specs.Resumed.{next_in}
+use Rattle.lisp_frames.specs.Stack.{StackState, with_redex}
 use Rattle.server_rules.specs.Simple.{are_simple}
 use Rattle.step_model.specs.Now.{Now, around}
 use Rattle.step_model.specs.Perform.{exhausted, laid, lays, lays_if}
@@ -17,7 +17,7 @@ use Rattle.term_model.specs.declared.kept.Outcome.{Outcome}
 use Rattle.term_model.specs.declared.kept.Outcome.TheVariants as outcome
 use Rattle.term_model.specs.declared.plain.Plain.{Plain}
 use Rattle.term_model.specs.GoingIn.{resumed}
-use Rattle.term_model.specs.Room.{enter, is_within, levels, room, wrap}
+use Rattle.term_model.specs.Room.{is_within, levels, room, wrap}
 use Rattle.term_model.specs.Term.{Context}
 use Rattle.lisp_step.specs.Machine.{stack_of}
 use Rattle.lisp_step.specs.Rows.{given, given_value, gone, laid_if, resumed_by}

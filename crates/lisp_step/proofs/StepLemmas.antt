@@ -7,7 +7,7 @@ use Rattle.server_rules.specs.Beside.{Beside}
 use Rattle.server_rules.specs.Rules.{rules}
 use Rattle.server_rules.specs.Simple.{are_simple}
 use Rattle.step_model.specs.Image.{ImageState}
-use Rattle.step_model.specs.Now.{Mailbox, Now}
+use Rattle.step_model.specs.Now.{Mailbox}
 use Rattle.step_model.specs.Step.{step}
 use Rattle.term_model.specs.declared.focus.Focus.{Focus}
 use Rattle.term_model.specs.declared.focus.Focus.TheVariants as focus

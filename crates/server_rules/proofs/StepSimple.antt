@@ -26,7 +26,7 @@ use Rattle.step_model.specs.Kinds.{current, or_refuse}
 use Rattle.step_model.specs.Now.{Now, around}
 use Rattle.step_model.specs.Perform.{exits, perform}
 use Rattle.step_model.specs.Requests.{asked, before_forms, commanded, finished, forms_row, placed_found, resolved}
-use Rattle.step_model.specs.Step.{act_if, announced, begun, is_built, is_form_built, is_row_built, raises, step}
+use Rattle.step_model.specs.Step.{act_if, begun, is_built, is_form_built, is_row_built, raises, step}
 use Rattle.step_model.specs.Step as the_step
 use Rattle.step_model.specs.Table.{given_alone, given_row, or_shared, row}
 use Rattle.swank_rpc.specs.Commands.{Given, Replies, RepliesIn, Refuses, Evaluates, called, command_of}

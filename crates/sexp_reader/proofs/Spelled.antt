@@ -16,7 +16,7 @@ use Rattle.sexp_reader.specs.Atoms.{atom}
 use Rattle.sexp_reader.specs.Grammar as g
 use Rattle.sexp_reader.specs.Grammar.{Gap, Body, Taken, Token, Spells, Items, place}
 use Rattle.sexp_reader.specs.Tokens as t
-use Rattle.sexp_reader.specs.Tokens.{ends_token, max_characters, IsBad, IsInteger, IsNil}
+use Rattle.sexp_reader.specs.Tokens.{IsBad, IsInteger, IsNil}
 use Rattle.sexp_reader.specs.Reading.{ready, began, is_full, complete, between, token_ended, run, finish, whole}
 use Rattle.sexp_reader.proofs.BoolLemmas.{decide}
 use Rattle.sexp_reader.proofs.AtomLemmas.{begins_hash, hash-bad, atom-integer, atom-nil, atom-symbol}

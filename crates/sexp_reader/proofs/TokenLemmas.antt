@@ -10,7 +10,7 @@ use Rattle.lisp_data.specs.declared.sexp.Sexp.TheVariants as form
 use Rattle.sexp_reader.specs.declared.fault.ReadFault.TheVariants.{NumberTooWide}
 use Rattle.sexp_reader.specs.Atoms.{is_integer, integer_of, is_empty, is_number_like, is_increment, is_nil, has_good_colons, is_bad}
 use Rattle.sexp_reader.specs.Tokens as t
-use Rattle.sexp_reader.specs.Tokens.{uppercase, has_colon, spoils, begins_number, max_characters, IsNil, IsInteger, IsNoInteger, IsNumberLike, HasGoodColons, IsBad}
+use Rattle.sexp_reader.specs.Tokens.{spoils, begins_number, max_characters, IsNil, IsInteger, IsNoInteger, IsNumberLike, IsBad}
 use Rattle.sexp_reader.proofs.BoolLemmas.{decide, false-true, or-parts, or-left, or-right, and-both}
 use Rattle.sexp_reader.proofs.IntegerLemmas.{integer_parts, numeral_of, fits-negative, fits-positive, negative-fits, positive-fits}
 

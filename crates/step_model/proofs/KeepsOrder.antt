@@ -5,7 +5,7 @@ use Rattle.term_model.specs.Breaks.{max_levels}
 use Rattle.term_model.specs.Label.{Label}
 use Rattle.step_model.specs.Marks.{Mark, Protected, Cleaning, Serving, Level, Asking, State, depth, state_of}
 use Rattle.step_model.specs.Moves as move
-use Rattle.step_model.specs.Moves.{Comes, Fits, Move, Path, Phase, after, before, go, stay}
+use Rattle.step_model.specs.Moves.{Fits, Move, Path, Phase, after, before, go, stay}
 use Rattle.step_model.specs.Now.{Mailbox, Now}
 use Rattle.step_model.specs.Order.{AreSerials, IsNew, IsOrdered}
 use Rattle.step_model.specs.Rules.{Rules}

@@ -15,7 +15,7 @@ use Rattle.step_model.specs.Now.{Now, puts}
 use Rattle.step_model.specs.Perform.{gives_in, perform}
 use Rattle.step_model.specs.Requests.{asked, commanded, in_level, invokes_place, invokes_restart, is_number, item_at, nil_reply}
 use Rattle.step_model.specs.Rules as rules_of
-use Rattle.step_model.specs.Rules.{Command, Rules}
+use Rattle.step_model.specs.Rules.{Rules}
 use Rattle.step_model.specs.Stale.{IsStale}
 use Rattle.step_model.specs.Step.{act_if, announced_at, begun, is_row_built, raises, step}
 use Rattle.step_model.specs.Table.{row}

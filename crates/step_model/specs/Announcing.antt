@@ -1,6 +1,5 @@
 -- How a level of the debugger is announced to Emacs.
 use Rattle.std.specs.Prelude.{ℕ, ◌+◌, ◌==◌, true, if◌then◌else◌, List, [], ◌∷◌, ◌++◌, map, take, codes}
-use Rattle.lisp_data.specs.declared.value.Value.{Value}
 use Rattle.lisp_data.specs.declared.value.Value as value
 use Rattle.lisp_data.specs.declared.value.Condition.{Condition}
 use Rattle.lisp_types.specs.Types.{name_of}

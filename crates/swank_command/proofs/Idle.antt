@@ -1,12 +1,10 @@
 -- What holds of a run that never began.
-use Rattle.std.proofs.Common.{◌≡◌, ◌≢◌, ◌∙◌, ◌⊎◌, inl, inr, ℕ, ◌+◌, ◌-◌, ◌^◌, min, Bool, true, false, true≢false, List, [], ◌∷◌, ◌++◌, length, Option, Some, None, refl, sym, subst, ap, arith, length-append}
+use Rattle.std.proofs.Common.{◌≡◌, ◌≢◌, ◌∙◌, ◌⊎◌, inl, inr, ℕ, ◌+◌, ◌-◌, ◌^◌, min, Bool, true, false, true≢false, List, [], ◌++◌, length, Option, Some, None, refl, sym, subst, ap, arith, length-append}
 use Rattle.std.proofs.lemmas.List.{nil_from_length}
-use mathlib.Core.List.{IsPrefix}
 use Rattle.step_model.specs.Image.{ImageState}
-use Rattle.packet_framing.specs.Packets.{packets, packets_up_to}
+use Rattle.packet_framing.specs.Packets.{packets_up_to}
 use Rattle.session_model.specs.declared.limits.Limits.{Limits}
-use Rattle.session_model.specs.Journal.{outputs, run}
-use Rattle.session_model.specs.Wire.{frames}
+use Rattle.session_model.specs.Journal.{run}
 use Rattle.server_rules.specs.Rules.{rules}
 use Rattle.command_words.specs.declared.limits.WordsFault.{WordsFault}
 use Rattle.command_words.specs.declared.limits.WordsFault.TheVariants as words

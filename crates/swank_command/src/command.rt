@@ -65,7 +65,8 @@ pub fn run<S: Source, K: Sink>(
     ensures written { (octets : List ℕ) → Wrote (K.written output.old) (K.written output.new) octets → IsWritten result.status image result.journal octets }
     ensures sent { (octets : List ℕ) → Wrote (K.written output.old) (K.written output.new) octets → result.sent ≡ min (length octets) (2 ^ 64 - 1) }
 
-    // Each output fits a packet. An image that names a package with more than 2^20 octets is refused before anything is read.
+    // Each output fits a packet. An image whose package names are not short is refused before anything is read: where a name, or the
+    // prompt for it, has more than 2^20 octets, or COMMON-LISP-USER is missing.
     ensures framed { All FitsPacket (outputs rules image result.journal) }
     ensures long_names { (limits : TheLimits) → limits_of words.now ≡ Some limits → are_short image.packages ≡ false
         → (result.status ≡ Status.NoMemory) × (result.journal ≡ []) × (result.taken ≡ 0) × (result.sent ≡ 0) × (result.image ≡ image)

@@ -1,17 +1,14 @@
 -- Steps of one thread, one after another, and what they do to a session's world.
-use Rattle.std.proofs.Common.{◌≡◌, ℕ, zero, suc, ◌+◌, ◌-◌, ◌<◌, ◌≤◌, Bool, true, false, List, [], ◌∷◌, ◌++◌, length, Option, Some, None, refl, sym, ap, ◌∙◌, subst, arith, append_assoc, append-nil, add-one}
-use Rattle.std.specs.Prelude.{◌&&◌, ◌==◌, not, if◌then◌else◌, slice_get, slice_set}
-use Rattle.std.specs.Option.{option_map_or}
-use Rattle.std.proofs.lemmas.Option.{none-some}
+use Rattle.std.proofs.Common.{◌≡◌, ℕ, zero, suc, ◌+◌, ◌-◌, ◌<◌, Bool, true, false, List, [], ◌∷◌, ◌++◌, Option, Some, None, refl, sym, ap, ◌∙◌, subst, arith, append_assoc, append-nil, add-one}
+use Rattle.std.specs.Prelude.{if◌then◌else◌, slice_set}
 use Rattle.std.proofs.lemmas.List.{set-set}
-use Rattle.rpc_messages.specs.declared.from_emacs.FromEmacs.{FromEmacs}
 use Rattle.rpc_messages.specs.declared.from_emacs.FromEmacs.TheVariants as mail
 use Rattle.rpc_messages.specs.declared.to_emacs.Returned.TheVariants as returned
 use Rattle.rpc_messages.specs.declared.to_emacs.ToEmacs.{ToEmacs}
 use Rattle.rpc_messages.specs.declared.to_emacs.ToEmacs.TheVariants as message
 use Rattle.term_model.specs.declared.focus.Focus.{Focus}
 use Rattle.term_model.specs.Label.{Label, messages_in}
-use Rattle.term_model.specs.Term.{Context, At, plug, split, split-plug}
+use Rattle.term_model.specs.Term.{Context, At, plug, split-plug}
 use Rattle.term_model.proofs.Messages.{messages_in-append}
 use Rattle.lisp_frames.specs.Stack.{StackState}
 use Rattle.lisp_step.specs.Machine as machine
@@ -24,9 +21,9 @@ use Rattle.step_model.specs.Step.{step}
 use Rattle.session_model.specs.Arriving.{workers_without}
 use Rattle.session_model.specs.Legal.{can_step, goes_on, may_step}
 use Rattle.session_model.specs.Pipe.{burst_length}
-use Rattle.session_model.specs.Running.{after_step, bursts, is_over, now_of, returns, settles, step_of, steps, steps_once, swept, unlent, with_session}
-use Rattle.session_model.specs.World.{Thread, World, Happened, live, repl, thread_in, thread_at}
-use Rattle.swank_core.specs.Bursts.{Shows, swept_from, moved, Steps, IsStep, Going, Runs, IsRun, IsBurst, workers_if}
+use Rattle.session_model.specs.Running.{after_step, bursts, is_over, now_of, settles, step_of, steps, steps_once, swept, unlent, with_session}
+use Rattle.session_model.specs.World.{Thread, World, Happened, live, thread_in, thread_at}
+use Rattle.swank_core.specs.Bursts.{Shows, swept_from, moved, Steps, IsStep, Going, Runs, IsRun, IsBurst}
 use Rattle.swank_core.specs.Threads.{number_of, thread_of}
 use Rattle.swank_core.specs.declared.record.Record.{Record}
 use Rattle.swank_core.proofs.RunLemmas.{steps_more, StepsMore}

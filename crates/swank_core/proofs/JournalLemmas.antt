@@ -1,5 +1,5 @@
 -- Journals whose last entry is, or isn't, a drain.
-use Rattle.std.proofs.Common.{◌≡◌, Bool, true, false, List, [], ◌∷◌, ◌++◌, Option, Some, None, refl, sym, ap, ◌∙◌, append-nil}
+use Rattle.std.proofs.Common.{◌≡◌, true, false, List, [], ◌∷◌, ◌++◌, Option, Some, None, refl, sym, ◌∙◌, append-nil}
 use Rattle.std.specs.Prelude.{option_to_list, IfSome}
 use Rattle.session_model.specs.declared.event.Entry.{Entry}
 use Rattle.swank_core.specs.Drains.{ends_with_drain, is_drain}

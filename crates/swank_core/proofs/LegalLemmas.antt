@@ -17,15 +17,14 @@ use Rattle.step_model.specs.Image.{ImageState}
 use Rattle.step_model.specs.Now.{Mailbox, Now}
 use Rattle.step_model.specs.Step.{step}
 use Rattle.session_model.specs.declared.event.Entry.{Entry}
-use Rattle.session_model.specs.declared.event.Event.{Event}
 use Rattle.session_model.specs.declared.event.Event.TheVariants.{Arrive, End, Lend, Burst, Drain}
 use Rattle.session_model.specs.Arriving.{answers, arrives, interrupts, named, posted, requests, requests_by}
 use Rattle.session_model.specs.Journal.{next, run, run_from}
-use Rattle.session_model.specs.Legal.{can_step, goes_on, is_active, is_lendable, is_lent, is_ready, may_step, waits_in_vain, AreLegal, CanMake, IsLegal, IsLegalFrom, IsLentTo, MayArrive, MayHappen, max_burst}
+use Rattle.session_model.specs.Legal.{can_step, goes_on, is_active, is_lendable, is_lent, is_ready, may_step, waits_in_vain, AreLegal, CanMake, IsLegal, IsLegalFrom, IsLentTo, MayArrive, max_burst}
 use Rattle.session_model.specs.Pipe.{burst_length}
-use Rattle.session_model.specs.Running.{bursts, interrupted, is_over, lends, lends_thread, now_of, settles, step_of, steps, steps_once, unlent}
+use Rattle.session_model.specs.Running.{bursts, interrupted, is_over, lends_thread, now_of, settles, step_of, steps, steps_once, unlent}
 use Rattle.session_model.specs.World.{Thread, World, fresh, repl, start, thread_at, thread_in}
-use Rattle.swank_core.specs.Ties.{GoesOn, HasLegal, LentGoOn, Ties}
+use Rattle.swank_core.specs.Ties.{GoesOn, HasLegal, LentGoOn}
 use Rattle.swank_core.proofs.PlacedLemmas.{each_push, each_set, live_within, thread_set_other, thread_set_same}
 use Rattle.swank_core.proofs.RunLemmas.{run_more}
 use Rattle.swank_core.proofs.ThreadLemmas.{goes_on_with_more}

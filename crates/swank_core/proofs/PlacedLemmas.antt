@@ -1,6 +1,6 @@
 -- What holds of each thread before a place of the journal: its messages came before, and each of its interrupts had a place.
-use Rattle.std.proofs.Common.{◌≡◌, ◌≢◌, ℕ, ℤ, zero, suc, ◌+◌, ◌<◌, ◌≤◌, Bool, true, false, cond, List, [], ◌∷◌, ◌++◌, length, Option, Some, None, ⊎_elim, refl, sym, ap, ◌∙◌, subst, arith, length-append}
-use Rattle.std.specs.Prelude.{slice_get, slice_set, if◌then◌else◌}
+use Rattle.std.proofs.Common.{◌≡◌, ℕ, ℤ, zero, suc, ◌+◌, ◌<◌, ◌≤◌, Bool, true, false, cond, List, [], ◌∷◌, ◌++◌, length, Option, Some, None, ⊎_elim, refl, sym, ap, ◌∙◌, subst, arith, length-append}
+use Rattle.std.specs.Prelude.{slice_get, slice_set}
 use Rattle.std.specs.Option.{option_map_or}
 use Rattle.std.proofs.lemmas.Bool.{cases_eq}
 use Rattle.std.proofs.lemmas.Option.{none-some, same_Some, slice_get_within}
@@ -14,7 +14,7 @@ use Rattle.rpc_messages.specs.declared.pattern.Pattern.{Pattern}
 use Rattle.rpc_messages.specs.declared.pattern.Pattern.TheVariants as pattern
 use Rattle.mailboxes.specs.Mail.{without_accepted, AllBefore}
 use Rattle.term_model.specs.Label.{Label}
-use Rattle.step_model.specs.Marks.{State, state_of}
+use Rattle.step_model.specs.Marks.{State}
 use Rattle.step_model.specs.Moves as move
 use Rattle.step_model.specs.Moves.{Move, Path, Phase, go, stay, mail_after}
 use Rattle.step_model.specs.Now.{Mailbox, Now}

@@ -1,16 +1,13 @@
 -- The run of a journal with one entry more, and what an event leaves of the world beside the threads.
-use Rattle.std.proofs.Common.{◌≡◌, ℕ, ℤ, zero, suc, ◌+◌, Bool, true, false, List, [], ◌∷◌, ◌++◌, length, Option, Some, None, refl, sym, ap, ◌∙◌, arith, append_assoc, append-nil}
-use Rattle.std.specs.Prelude.{◌||◌}
+use Rattle.std.proofs.Common.{◌≡◌, ℕ, ℤ, zero, suc, ◌+◌, Bool, true, false, List, [], ◌∷◌, ◌++◌, Option, Some, None, refl, sym, ap, ◌∙◌, arith, append_assoc, append-nil}
 use Rattle.rpc_messages.specs.declared.from_emacs.FromEmacs.{FromEmacs}
 use Rattle.rpc_messages.specs.declared.from_emacs.FromEmacs.TheVariants as mail
 use Rattle.rpc_messages.specs.declared.from_emacs.ThreadName.{ThreadName}
 use Rattle.rpc_messages.specs.declared.from_emacs.ThreadName.TheVariants as name
-use Rattle.term_model.specs.Label.{Label, messages_in}
+use Rattle.term_model.specs.Label.{messages_in}
 use Rattle.step_model.specs.Image.{ImageState}
 use Rattle.step_model.specs.Rules.{Rules}
 use Rattle.session_model.specs.declared.event.Entry.{Entry}
-use Rattle.session_model.specs.declared.event.Event.{Event}
-use Rattle.session_model.specs.declared.event.Event.TheVariants.{Arrive, End, Lend, Burst, Drain}
 use Rattle.session_model.specs.Arriving.{named, requests, requests_by, answers, interrupts, arrives}
 use Rattle.session_model.specs.Journal.{next, run_from, run, steps_of, steps_made}
 use Rattle.session_model.specs.Running.{broke_if, lends_thread, steps_once, steps}

@@ -1,13 +1,13 @@
 -- The table of live threads: what is found in it, and what a change makes of it.
-use Rattle.std.proofs.Common.{◌≡◌, ◌≢◌, ℕ, zero, suc, ◌+◌, ◌-◌, ◌<◌, ◌≤◌, Bool, true, false, List, [], ◌∷◌, ◌++◌, length, map, Option, Some, None, ⊎_elim, refl, sym, ap, ◌∙◌, subst, arith, add-one}
+use Rattle.std.proofs.Common.{◌≡◌, ℕ, zero, suc, ◌+◌, ◌-◌, ◌<◌, ◌≤◌, Bool, true, false, List, [], ◌∷◌, ◌++◌, length, map, Option, Some, None, ⊎_elim, refl, sym, ap, ◌∙◌, subst, arith, add-one}
 use Rattle.std.specs.Prelude.{◌==◌, ◌&&◌, ◌^◌, ltb, find, IfSome, if◌then◌else◌, slice_get, slice_set, slice_index_or, remove, drop}
 use Rattle.std.specs.List.Sorted.{IsNonDecreasingBy, IsPartitionPoint}
 use Rattle.std.specs.Option.{option_map_or}
-use Rattle.std.proofs.lemmas.Bool.{cases_eq, cases_lt, ltb-false, ltb-true}
+use Rattle.std.proofs.lemmas.Bool.{cases_lt, ltb-false, ltb-true}
 use Rattle.std.proofs.lemmas.List.{get_or-set_same, length-map}
 use Rattle.std.proofs.lemmas.Option.{IfSome_then, get_or_from_slice_get, none-some, same_Some, slice_get_past, slice_get_within}
 use Rattle.server_rules.specs.Simple.{are_simple}
-use Rattle.session_model.specs.Legal.{are_idle, is_idle, is_lendable, is_lent}
+use Rattle.session_model.specs.Legal.{are_idle, is_idle}
 use Rattle.session_model.specs.Pipe.{numbers}
 use Rattle.session_model.specs.World.{Thread, World, fresh, thread_in}
 use Rattle.step_model.specs.Image.{ImageState}

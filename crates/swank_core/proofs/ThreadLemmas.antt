@@ -1,6 +1,6 @@
 -- What a kept thread can do, and what a loan makes of it.
-use Rattle.std.proofs.Common.{◌≡◌, ◌⊎◌, inl, inr, ⊎_elim, ℕ, zero, suc, ◌+◌, ◌-◌, ◌<◌, Bool, true, false, List, [], ◌∷◌, ◌++◌, Option, Some, None, refl, sym, ap, ◌∙◌, subst, arith}
-use Rattle.std.specs.Prelude.{is_none, is_some, not, find, if◌then◌else◌}
+use Rattle.std.proofs.Common.{◌≡◌, ◌⊎◌, inl, inr, ⊎_elim, ℕ, zero, suc, ◌+◌, ◌-◌, ◌<◌, Bool, true, false, [], ◌∷◌, ◌++◌, Option, Some, refl, sym, ap, ◌∙◌, arith}
+use Rattle.std.specs.Prelude.{is_some, not, find, if◌then◌else◌}
 use Rattle.rpc_messages.specs.Waiting.{accepted}
 use Rattle.rpc_messages.specs.declared.from_emacs.FromEmacs.{FromEmacs}
 use Rattle.rpc_messages.specs.declared.pattern.Pattern.{Pattern}
@@ -8,7 +8,7 @@ use Rattle.mailboxes.specs.Mail.{first_accepted}
 use Rattle.term_model.specs.declared.focus.Focus.{Focus}
 use Rattle.term_model.specs.declared.focus.Focus.TheVariants as focus
 use Rattle.term_model.specs.Breaks.{broken, broken_in}
-use Rattle.term_model.specs.Term.{Context, At, plug, split, split-plug}
+use Rattle.term_model.specs.Term.{Context, At, plug, split-plug}
 use Rattle.lisp_frames.specs.Stack.{StackState}
 use Rattle.lisp_step.specs.Machine as machine
 use Rattle.step_model.specs.Now.{Mailbox}

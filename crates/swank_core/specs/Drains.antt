@@ -1,5 +1,5 @@
 -- Drains in a journal.
-use Rattle.std.specs.Prelude.{ℕ, Bool, true, false, List, [], ◌∷◌}
+use Rattle.std.specs.Prelude.{Bool, true, false, List, [], ◌∷◌}
 use Rattle.session_model.specs.declared.event.Entry.{Entry}
 use Rattle.session_model.specs.declared.event.Event.{Event}
 use Rattle.session_model.specs.declared.event.Event.TheVariants.{Drain}

@@ -1,6 +1,5 @@
 -- The image, the threads and the workers of a session, as the code keeps them beside the rest of its world.
-use Rattle.std.specs.Prelude.{◌≡◌, ℕ, ◌≤◌, List, Option, Some, reverse, length}
-use Rattle.lisp_data.specs.declared.value.Value.{Value}
+use Rattle.std.specs.Prelude.{◌≡◌, ℕ, ◌≤◌, List, Option, Some}
 use Rattle.rpc_messages.specs.declared.to_emacs.ToEmacs.{ToEmacs}
 use Rattle.term_model.specs.Label.{messages_in}
 use Rattle.mailboxes.specs.Mail.{AllBefore}

@@ -1,5 +1,5 @@
 -- A live thread as it is kept, and the table of them.
-use Rattle.std.specs.Prelude.{◌≡◌, ℕ, ◌+◌, ◌≤◌, ◌^◌, true, List, [], ◌∷◌, Option, Some, None, drop, slice_get, slice_set}
+use Rattle.std.specs.Prelude.{◌≡◌, ℕ, ◌+◌, ◌≤◌, ◌^◌, true, List, [], ◌∷◌, Option, Some, drop, slice_get, slice_set}
 use Rattle.std.specs.Option.{option_map_or}
 use Rattle.server_rules.specs.Simple.{are_simple}
 use Rattle.session_model.specs.Running.{interrupted}

@@ -1,39 +1,33 @@
 -- What a session is after each event, and after one that was refused.
-use Rattle.std.proofs.Common.{◌≡◌, ◌≢◌, ℕ, zero, suc, ◌+◌, ◌-◌, ◌^◌, ◌<◌, ◌≤◌, min, Bool, true, false, List, [], ◌∷◌, ◌++◌, length, map, flat_map, Option, Some, None, Result, Ok, Err, refl, sym, ap, ◌∙◌, subst, append_assoc, append-nil, length-append, arith}
-use Rattle.std.proofs.lemmas.Grind.{flat_map-append}
+use Rattle.std.proofs.Common.{◌≡◌, ℕ, ◌+◌, ◌-◌, ◌<◌, ◌≤◌, Bool, true, false, List, [], ◌∷◌, ◌++◌, length, Option, Some, None, Err, refl, sym, ap, ◌∙◌, subst, append_assoc, append-nil, length-append, arith}
 use Rattle.std.proofs.lemmas.Bool.Decides.{nat_tests}
-use Rattle.std.specs.Prelude.{◌&&◌, ◌||◌, not, nat_lt, All, OnOk}
+use Rattle.std.specs.Prelude.{◌&&◌, ◌||◌, not, nat_lt, All}
 use Rattle.std.proofs.lemmas.List.Elements.{All-tail}
 use mathlib.Core.List.{IsPrefix}
-use Rattle.outside_traits.specs.Told.{BothTold}
 use Rattle.packet_framing.specs.Frames.{packet_of}
 use Rattle.rpc_messages.specs.declared.from_emacs.FromEmacs.{FromEmacs}
 use Rattle.rpc_messages.specs.declared.to_emacs.ToEmacs.{ToEmacs}
-use Rattle.step_model.specs.Image.{ImageState}
 use Rattle.session_model.specs.declared.event.Entry.{Entry}
 use Rattle.session_model.specs.declared.event.Event.{Event}
 use Rattle.session_model.specs.declared.event.Event.TheVariants.{Arrive, End, Lend, Burst, Drain}
-use Rattle.session_model.specs.Journal.{arrived, arrivals, next, outputs, run, steps_of, steps_made}
-use Rattle.session_model.specs.Legal.{IsLegalFrom, is_quiet, max_burst}
-use Rattle.session_model.specs.Pipe.{Cursor, burst_length, by_pipe, next_ready}
+use Rattle.session_model.specs.Journal.{arrived, arrivals, next, outputs, steps_of, steps_made}
+use Rattle.session_model.specs.Legal.{IsLegalFrom, is_quiet}
+use Rattle.session_model.specs.Pipe.{Cursor, by_pipe}
 use Rattle.session_model.specs.Wire.{text_of, frames}
 use Rattle.session_model.specs.World.{World, thread_at}
 use Rattle.session_model.proofs.Ended.{arrives_ended, lends_ended, bursts_ended}
 use Rattle.session_model.proofs.Loans.{NoneLent, arrives_free, lends_free, bursts_free}
 use Rattle.session_model.proofs.Outputs.{outputs_are_written}
-use Rattle.session_model.proofs.PipeLegal.{burst_most}
 use Rattle.server_laws.specs.Small.{AreSmall, FitsPacket, HasShortNames, IsSmall}
 use Rattle.server_laws.proofs.Sessions.{outputs_fit}
 use Rattle.server_rules.specs.Rules.{rules}
 use Rattle.swank_core.specs.Session.{Session, Adds, blocked, is_closed, is_full, refusal, with_entry, world}
 use Rattle.swank_core.specs.declared.fault.CoreFault.{CoreFault}
 use Rattle.swank_core.specs.declared.fault.CoreFault.TheVariants as fault
-use Rattle.swank_session.specs.Course.{between, steps_left, whole, IsFramed, IsLive, IsFree, IsPaused, Later, Reaches, IsStuck, closed, full, spent, Halts, halt_of, Sent, Writes, Paid, Pays}
-use Rattle.swank_session.specs.Promises.{IsCut}
-use Rattle.swank_session.specs.declared.ends.Halt.{Halt}
+use Rattle.swank_session.specs.Course.{steps_left, whole, IsFramed, IsLive, IsFree, IsPaused, Later, Reaches, closed, full, Halts, halt_of, Sent, Paid, Pays}
 use Rattle.swank_session.specs.declared.ends.Halt.TheVariants as halt
-use Rattle.swank_session.proofs.RunLemmas.{arrivals-last, steps_made-last, arrives_drained, bursts_drained, Lends, lends_silent}
-use Rattle.swank_session.proofs.ScheduleLemmas.{HasPlace, lending, world-entry, whole-begins, drains-next, lends-next, bursts-next, closed-stops, full-stops}
+use Rattle.swank_session.proofs.RunLemmas.{arrivals-last, steps_made-last, arrives_drained, bursts_drained, lends_silent}
+use Rattle.swank_session.proofs.ScheduleLemmas.{HasPlace, world-entry, whole-begins, drains-next, closed-stops, full-stops}
 
 -- ---- any entry
 

@@ -1,15 +1,14 @@
 -- What was read, call by call, and what its messages are.
-use Rattle.std.proofs.Common.{◌≡◌, ◌≢◌, ℕ, zero, suc, ◌+◌, ◌-◌, ◌<◌, ◌≤◌, ◌⊎◌, inl, inr, Bool, true, false, List, [], ◌∷◌, ◌++◌, length, map, Option, Some, None, refl, sym, ap, ◌∙◌, subst, append_assoc, append-nil, length-append, arith}
-use Rattle.std.specs.Prelude.{IsSome}
+use Rattle.std.proofs.Common.{◌≡◌, ℕ, zero, suc, ◌+◌, ◌-◌, ◌<◌, ◌≤◌, Bool, List, [], ◌∷◌, ◌++◌, length, map, Option, Some, None, refl, sym, ap, ◌∙◌, subst, append_assoc, append-nil, length-append, arith}
 use Rattle.inlet.specs.Calls.{Call, gave, gave_none, Runs, all_given, all_read}
-use Rattle.inlet.specs.Messages.{Takes, AreMessagesOf}
-use Rattle.inlet.specs.Pump.{Answers, Pumps, input_limit, met_end}
+use Rattle.inlet.specs.Messages.{AreMessagesOf}
+use Rattle.inlet.specs.Pump.{Pumps, met_end}
 use Rattle.inlet.specs.declared.pumping.Pumped.{Pumped}
 use Rattle.inlet.specs.declared.pumping.Pumped.TheVariants as pumped
 use Rattle.inlet.proofs.CallLemmas.{packets-calls}
 use Rattle.inlet.proofs.MessageLemmas.{IsExact, one_list}
 use Rattle.outside_traits.specs.Told.{BothTold}
-use Rattle.packet_framing.specs.Packets.{Split, first_packet, rest_of, after_first, packets, after_payloads, IsBad, IsUnfinished}
+use Rattle.packet_framing.specs.Packets.{Split, first_packet, rest_of, after_first, packets, IsBad, IsUnfinished}
 use Rattle.packet_framing.proofs.PacketLemmas.{first_packet-append, first_packet-bad, first_packet-short, packets-none, packets-append, shorter}
 use Rattle.rpc_messages.specs.declared.from_emacs.FromEmacs.{FromEmacs}
 use Rattle.sexp_reader.proofs.Exact.{exact-form, one-value, one-fault, not-both}

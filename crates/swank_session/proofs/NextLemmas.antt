@@ -1,6 +1,6 @@
 -- The thread that comes next.
-use Rattle.std.proofs.Common.{◌≡◌, ◌≢◌, ℕ, zero, suc, ◌+◌, ◌-◌, ◌<◌, ◌≤◌, Bool, true, false, List, [], ◌∷◌, ◌++◌, length, Option, Some, None, refl, sym, ap, ◌∙◌, subst, append-nil, arith}
-use Rattle.std.specs.Prelude.{◌&&◌, ◌||◌, not, if◌then◌else◌, find, is_some, IsTrue, slice_get}
+use Rattle.std.proofs.Common.{◌≡◌, ℕ, zero, suc, ◌+◌, ◌-◌, ◌≤◌, Bool, true, false, List, [], ◌∷◌, ◌++◌, length, Option, Some, None, refl, sym, ap, ◌∙◌, arith}
+use Rattle.std.specs.Prelude.{◌&&◌, ◌||◌, not, if◌then◌else◌, find, is_some, slice_get}
 use Rattle.std.specs.Option.{option_map_or}
 use Rattle.session_model.specs.Legal.{IsLentTo, is_active, is_lent, is_lendable, is_ready, is_idle, are_idle, is_quiet}
 use Rattle.session_model.specs.Pipe.{in_order, next_ready, numbers}

@@ -1,6 +1,6 @@
 -- What a run that ended so promises.
-use Rattle.std.proofs.Common.{◌≡◌, ◌≢◌, ℕ, zero, suc, ◌+◌, ◌-◌, ◌^◌, ◌<◌, ◌≤◌, min, ◌⊎◌, inl, inr, Bool, true, false, List, [], ◌∷◌, ◌++◌, length, Option, Some, None, Result, Ok, Err, refl, sym, ap, ◌∙◌, subst, append_assoc, append-nil, length-append, arith}
-use Rattle.std.specs.Prelude.{◌&&◌, not, nat_le, IfOk, IsTrue}
+use Rattle.std.proofs.Common.{◌≡◌, ◌≢◌, ℕ, ◌+◌, ◌-◌, ◌^◌, ◌<◌, ◌≤◌, min, ◌⊎◌, inl, inr, Bool, true, false, List, [], ◌∷◌, ◌++◌, length, Option, Some, None, Result, Ok, Err, refl, sym, ap, ◌∙◌, subst, append-nil, arith}
+use Rattle.std.specs.Prelude.{◌&&◌, not, nat_le, IfOk}
 use Rattle.std.proofs.lemmas.Bool.Decides.{nat_tests}
 use Rattle.std.proofs.lemmas.List.{append_cancel_left, append_cancel_right}
 use mathlib.Core.List.{IsPrefix}
@@ -12,18 +12,17 @@ use Rattle.rpc_messages.specs.declared.to_emacs.ToEmacs.{ToEmacs}
 use Rattle.step_model.specs.Image.{ImageState}
 use Rattle.session_model.specs.declared.event.Entry.{Entry}
 use Rattle.session_model.specs.declared.limits.Limits.{Limits}
-use Rattle.session_model.specs.Journal.{arrivals, outputs, run, steps_made}
+use Rattle.session_model.specs.Journal.{outputs, run}
 use Rattle.session_model.specs.Legal.{is_quiet, IsLegalFrom}
 use Rattle.session_model.specs.Pipe.{pipe_journal}
 use Rattle.session_model.specs.Wire.{frames}
-use Rattle.session_model.specs.World.{World}
 use Rattle.session_model.proofs.Outputs.{outputs_are_written}
 use Rattle.session_model.proofs.PipeLegal.{pipe_is_legal}
 use Rattle.session_model.proofs.Prefixes.{prefix_is_legal}
 use Rattle.server_rules.specs.Rules.{rules}
 use Rattle.swank_core.specs.Session.{Session, opening, world}
 use Rattle.swank_session.specs.Causes.{IsBroken, IsBrokenOrFull, IsStopped, IsDue, IsFull, IsSpent, IsBadInput, IsCutInput, IsLongInput, IsAllServed, closes, ends, NoLimit}
-use Rattle.swank_session.specs.Course.{IsAtRest, IsStuck, closed, full, spent, Halts, Finishes, Sent, Paid, Pays, Ends, Brings, is_told, Ran, is_out_of_room, status_if, status_of_end, status_for}
+use Rattle.swank_session.specs.Course.{IsAtRest, IsStuck, closed, full, spent, Halts, Finishes, Paid, Pays, Ends, Brings, is_told, Ran, is_out_of_room, status_if, status_of_end, status_for}
 use Rattle.swank_session.specs.Promises.{Took, Wrote, IsAtInput, IsRead, IsCut, IsWritten, IsOver, IsEnded, IsScheduled}
 use Rattle.swank_session.specs.Stream.{messages}
 use Rattle.swank_session.specs.declared.ends.Halt.{Halt}

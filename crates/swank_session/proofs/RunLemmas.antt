@@ -1,14 +1,13 @@
 -- What one entry more does to a run, and what it leaves as it was.
-use Rattle.std.proofs.Common.{◌≡◌, ℕ, ℤ, zero, suc, ◌+◌, Bool, true, false, List, [], ◌∷◌, ◌++◌, length, Option, Some, None, refl, sym, ap, ◌∙◌, subst, append_assoc, append-nil, arith}
+use Rattle.std.proofs.Common.{◌≡◌, ℕ, ℤ, zero, suc, ◌+◌, Bool, true, false, List, [], ◌∷◌, ◌++◌, Option, Some, None, refl, ap, ◌∙◌, append-nil, arith}
 use Rattle.std.proofs.lemmas.Option.{none-some}
-use Rattle.std.specs.Prelude.{slice_get, slice_set}
+use Rattle.std.specs.Prelude.{slice_set}
 use Rattle.rpc_messages.specs.declared.from_emacs.FromEmacs.{FromEmacs}
 use Rattle.rpc_messages.specs.declared.from_emacs.FromEmacs.TheVariants as mail
 use Rattle.rpc_messages.specs.declared.from_emacs.ThreadName.{ThreadName}
 use Rattle.rpc_messages.specs.declared.from_emacs.ThreadName.TheVariants as name
-use Rattle.rpc_messages.specs.declared.to_emacs.ToEmacs.{ToEmacs}
 use Rattle.term_model.specs.Breaks.{may_open}
-use Rattle.term_model.specs.Label.{Label, Broke}
+use Rattle.term_model.specs.Label.{Label}
 use Rattle.term_model.specs.Term.{split}
 use Rattle.step_model.specs.Image.{ImageState}
 use Rattle.step_model.specs.Now.{Now}
@@ -17,9 +16,9 @@ use Rattle.step_model.specs.Step.{step}
 use Rattle.session_model.specs.declared.event.Entry.{Entry}
 use Rattle.session_model.specs.declared.event.Event.{Event}
 use Rattle.session_model.specs.declared.event.Event.TheVariants.{Arrive, End, Lend, Burst, Drain}
-use Rattle.session_model.specs.Arriving.{named, posted, requests, requests_by, answers, interrupts, arrives}
+use Rattle.session_model.specs.Arriving.{named, requests, requests_by, answers, interrupts, arrives}
 use Rattle.session_model.specs.Journal.{arrived, arrivals, next, run, run_from, steps_of, steps_made}
-use Rattle.session_model.specs.Running.{interrupted, broke_if, lends_thread, now_of, settles, is_over, step_of, steps_once, steps, unlent, returns, bursts}
+use Rattle.session_model.specs.Running.{broke_if, lends_thread, now_of, settles, is_over, step_of, steps_once, steps, unlent, bursts}
 use Rattle.session_model.specs.World.{Thread, World, start, repl, thread_in, thread_at, messages_in}
 
 -- ---- one entry more

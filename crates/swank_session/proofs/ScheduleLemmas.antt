@@ -1,6 +1,6 @@
 -- An entry that the schedule makes next leaves the whole journal as it was; and where the schedule stops.
-use Rattle.std.proofs.Common.{◌≡◌, ℕ, zero, suc, ◌+◌, ◌-◌, ◌<◌, ◌≤◌, min, Bool, true, false, List, [], ◌∷◌, ◌++◌, length, Option, Some, None, refl, sym, ap, ◌∙◌, subst, append_assoc, append-nil, length-append, arith}
-use Rattle.std.specs.Prelude.{if◌then◌else◌, ◌&&◌, not, find, IsTrue}
+use Rattle.std.proofs.Common.{◌≡◌, ℕ, zero, suc, ◌+◌, ◌-◌, ◌<◌, ◌≤◌, min, Bool, true, false, List, [], ◌∷◌, ◌++◌, length, Option, Some, None, refl, sym, ap, ◌∙◌, append_assoc, append-nil, length-append, arith}
+use Rattle.std.specs.Prelude.{if◌then◌else◌, ◌&&◌, not}
 use mathlib.Core.List.{IsPrefix}
 use Rattle.rpc_messages.specs.declared.from_emacs.FromEmacs.{FromEmacs}
 use Rattle.rpc_messages.specs.declared.to_emacs.ToEmacs.{ToEmacs}
@@ -9,7 +9,7 @@ use Rattle.session_model.specs.declared.event.Entry.{Entry}
 use Rattle.session_model.specs.declared.event.Event.{Event}
 use Rattle.session_model.specs.declared.event.Event.TheVariants.{Arrive, End, Lend, Burst, Drain}
 use Rattle.session_model.specs.declared.limits.Limits.{Limits}
-use Rattle.session_model.specs.Journal.{arrivals, next, run, steps_of, steps_made}
+use Rattle.session_model.specs.Journal.{next, run, steps_of, steps_made}
 use Rattle.session_model.specs.Legal.{max_burst}
 use Rattle.session_model.specs.Pipe.{Cursor, Turn, turn_to, burst_length, next_ready, feeds, picks, runs, with_place, turns, turn, by_pipe, from_turn, schedule, pipe_journal}
 use Rattle.session_model.specs.World.{World, start}

@@ -1,11 +1,11 @@
 -- A run, message by message, and how it ends.
-use Rattle.std.proofs.Common.{◌≡◌, ◌≢◌, ℕ, zero, suc, ◌+◌, ◌-◌, ◌<◌, ◌≤◌, ◌⊎◌, inl, inr, Bool, true, false, List, [], ◌∷◌, ◌++◌, length, Option, Some, None, Result, Ok, Err, refl, sym, ap, ◌∙◌, subst, append_assoc, append-nil, arith}
-use Rattle.std.specs.Prelude.{◌&&◌, not, IfErr, IfOk, OnOk}
+use Rattle.std.proofs.Common.{◌≡◌, ℕ, zero, suc, ◌+◌, ◌-◌, ◌<◌, ◌≤◌, ◌⊎◌, inl, inr, Bool, true, false, List, [], ◌∷◌, ◌++◌, length, Option, None, Ok, Err, refl, sym, ap, ◌∙◌, subst, append_assoc, append-nil, arith}
+use Rattle.std.specs.Prelude.{◌&&◌, not}
 use mathlib.Core.List.{IsPrefix}
 use Rattle.inlet.specs.Pump.{NothingLeft, Pumps, input_limit, met_end}
 use Rattle.inlet.specs.declared.pumping.Pumped.{Pumped}
 use Rattle.inlet.specs.declared.pumping.Pumped.TheVariants as pumped
-use Rattle.packet_framing.specs.Packets.{IsBad, IsUnfinished}
+use Rattle.packet_framing.specs.Packets.{IsUnfinished}
 use Rattle.packet_framing.proofs.PacketLemmas.{first_packet-short}
 use Rattle.rpc_messages.specs.declared.from_emacs.FromEmacs.{FromEmacs}
 use Rattle.step_model.specs.Image.{ImageState}
@@ -13,19 +13,18 @@ use Rattle.session_model.specs.declared.event.Entry.{Entry}
 use Rattle.session_model.specs.declared.limits.Limits.{Limits}
 use Rattle.session_model.specs.Journal.{arrivals}
 use Rattle.session_model.specs.Pipe.{Cursor, pipe_journal}
-use Rattle.session_model.specs.World.{World, Thread, thread_in}
-use Rattle.session_model.proofs.Loans.{NoneLent, IsFree}
+use Rattle.session_model.proofs.Loans.{NoneLent}
 use Rattle.server_laws.specs.Small.{HasShortNames}
 use Rattle.server_rules.specs.Rules.{rules}
 use Rattle.swank_core.specs.Session.{Session, opening, world}
-use Rattle.swank_session.specs.Course.{between, whole, IsAtRest, Arrives, IsOverAfter, Reaches, Fed, Serves, Ends, BringsRest, is_told, Ran, Completes, Finishes, Spends, Paid, Pays}
+use Rattle.swank_session.specs.Course.{between, whole, IsAtRest, Arrives, IsOverAfter, Reaches, Fed, Serves, Ends, is_told, Ran, Completes, Spends, Paid}
 use Rattle.swank_session.specs.Promises.{max_ahead}
 use Rattle.swank_session.specs.Stream.{behind, messages}
 use Rattle.swank_session.specs.declared.ends.Halt.{Halt}
 use Rattle.swank_session.specs.declared.ends.Halt.TheVariants as halt
 use Rattle.swank_session.specs.declared.ends.InputEnd.{InputEnd}
 use Rattle.swank_session.specs.declared.ends.InputEnd.TheVariants as input
-use Rattle.swank_session.proofs.FeedLemmas.{EndsInput, over-of, Taken, taken-of, fed-none, fed-message, near-kept, near-last, Over, Lost, lost-of}
+use Rattle.swank_session.proofs.FeedLemmas.{EndsInput, over-of, Taken, taken-of, fed-none, fed-message, near-kept, near-last, Over, lost-of}
 use Rattle.swank_session.proofs.EventLemmas.{paid-begins}
 use Rattle.swank_session.proofs.NextLemmas.{quiet-none}
 use Rattle.swank_session.proofs.ScheduleLemmas.{whole-begins, whole-opening, rest-stops}

@@ -1,5 +1,5 @@
 -- The messages of a stream are those of its payloads, and each may arrive.
-use Rattle.std.proofs.Common.{◌≡◌, ◌∙◌, ℕ, ℤ, pos, ◌<◌, ◌≤◌, ◌^◌, Bool, true, false, if◌then◌else◌, List, [], ◌∷◌, map, length, inl, inr, codes, refl, sym, ap, subst, arith}
+use Rattle.std.proofs.Common.{◌≡◌, ℕ, ℤ, pos, ◌<◌, ◌≤◌, ◌^◌, Bool, true, false, if◌then◌else◌, List, [], ◌∷◌, map, length, inl, inr, codes, refl, sym, subst, arith}
 use Rattle.std.specs.Prelude.{◌≢◌, Option, Some, None, FitsSigned}
 use Rattle.std.specs.Str.{chars, is_utf8, IsUtf8}
 use Rattle.std.proofs.lemmas.Str.{IsUtf8-from_is_utf8, is_utf8-from_IsUtf8}
@@ -11,15 +11,13 @@ use Rattle.lisp_data.specs.declared.sexp.Sexp.TheOpen.{Sexp-F}
 use Rattle.lisp_data.specs.declared.sexp.Sexp.TheVariants as form
 use Rattle.lisp_data.specs.declared.sexp.Sexp.TheVariants.{outs-Int, outs-Str, outs-Sym, outs-List}
 use Rattle.packet_framing.specs.Packets.{packets}
-use Rattle.rpc_messages.specs.Cut.{cut}
 use Rattle.rpc_messages.specs.Incoming.{is_symbol, natural_in, id_in, thread_in, unless_new, standing_in, string_in, package_in, integer_in, rex_of, rex_in, interrupt_of, interrupt_in, return_string_of, return_string_in, return_of, return_in, message_at, message_in_open, message_in}
 use Rattle.rpc_messages.specs.declared.from_emacs.FromEmacs.{FromEmacs}
-use Rattle.rpc_messages.specs.declared.from_emacs.FromEmacs.TheVariants.{Unreadable}
 use Rattle.rpc_messages.specs.declared.from_emacs.ThreadName.{ThreadName}
 use Rattle.rpc_messages.specs.declared.from_emacs.ThreadName.TheVariants as name
 use Rattle.session_model.specs.Legal.{IsSmallName, MayArrive, AllMayArrive, max_fault}
 use Rattle.sexp_reader.specs.Grammar as g
-use Rattle.sexp_reader.specs.Grammar.{Spells, Items, IsSpelled}
+use Rattle.sexp_reader.specs.Grammar.{Spells, Items}
 use Rattle.sexp_reader.specs.declared.fault.ReadFault.{ReadFault}
 use Rattle.sexp_reader.specs.declared.fault.ReadFault.TheVariants as fault
 use Rattle.sexp_reader.proofs.Total.{one-or-fault}

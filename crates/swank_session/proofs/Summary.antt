@@ -1,5 +1,5 @@
 -- What a run leaves, said of its journal.
-use Rattle.std.proofs.Common.{◌≡◌, ◌≢◌, ℕ, ◌+◌, ◌-◌, ◌^◌, ◌<◌, ◌≤◌, min, ◌⊎◌, Bool, true, false, List, [], ◌∷◌, ◌++◌, length, Option, Some, None, Result, Ok, Err, refl, sym, ap, ◌∙◌, subst, append-nil, arith}
+use Rattle.std.proofs.Common.{◌≡◌, ◌≢◌, ℕ, ◌+◌, ◌-◌, ◌^◌, min, ◌⊎◌, Bool, false, List, [], ◌++◌, length, Option, Some, None, Result, Ok, Err, refl, sym, ap, ◌∙◌, subst, append-nil, arith}
 use Rattle.std.specs.Prelude.{All}
 use Rattle.outside_traits.specs.Faults.{Rose}
 use Rattle.outside_traits.specs.Told.{BothTold}
@@ -14,7 +14,7 @@ use Rattle.server_laws.specs.Small.{AreSmall, FitsPacket, HasShortNames}
 use Rattle.server_laws.proofs.Payloads.{beginning_small}
 use Rattle.server_laws.proofs.Sessions.{outputs_fit}
 use Rattle.server_rules.specs.Rules.{rules}
-use Rattle.swank_core.specs.Session.{Session, opening, world}
+use Rattle.swank_core.specs.Session.{Session, opening}
 use Rattle.swank_session.specs.Causes.{IsBroken, IsBrokenOrFull, IsStopped, IsDue, IsFull, IsSpent, IsBadInput, IsCutInput, IsLongInput, IsAllServed, NoFault, NoLimit}
 use Rattle.swank_session.specs.Course.{Completes, Paid, Pays, Ran, status_for}
 use Rattle.swank_session.specs.Promises.{Took, Wrote, IsRead, IsWritten, IsEnded, IsScheduled}

@@ -1,17 +1,16 @@
 -- One part of the schedule after another.
-use Rattle.std.proofs.Common.{◌≡◌, ◌≢◌, ℕ, zero, suc, ◌+◌, ◌-◌, ◌<◌, ◌≤◌, min, ◌⊎◌, inl, inr, Bool, true, false, List, [], ◌∷◌, ◌++◌, length, Option, Some, None, Result, Ok, Err, refl, sym, ap, ◌∙◌, subst, append_assoc, append-nil, arith}
-use Rattle.std.specs.Prelude.{◌&&◌, not, if◌then◌else◌, IfErr, IfOk, IfSome, OnOk}
+use Rattle.std.proofs.Common.{◌≡◌, ◌≢◌, ℕ, ◌+◌, ◌-◌, ◌<◌, ◌≤◌, min, inl, inr, Bool, true, false, List, [], ◌∷◌, length, Option, Some, None, Result, Ok, Err, refl, sym, ap, ◌∙◌, subst, arith}
+use Rattle.std.specs.Prelude.{◌&&◌, not, if◌then◌else◌, IfErr, IfSome, OnOk}
 use mathlib.Core.List.{IsPrefix}
 use Rattle.rpc_messages.specs.declared.from_emacs.FromEmacs.{FromEmacs}
 use Rattle.rpc_messages.specs.declared.to_emacs.ToEmacs.{ToEmacs}
 use Rattle.session_model.specs.declared.event.Entry.{Entry}
-use Rattle.session_model.specs.declared.event.Event.{Event}
 use Rattle.session_model.specs.declared.event.Event.TheVariants.{Arrive, End, Lend, Burst}
 use Rattle.session_model.specs.declared.limits.Limits.{Limits}
-use Rattle.session_model.specs.Journal.{arrivals, steps_made}
+use Rattle.session_model.specs.Journal.{steps_made}
 use Rattle.session_model.specs.Legal.{IsLentTo, is_quiet, is_ready, max_burst}
 use Rattle.session_model.specs.Pipe.{Cursor, burst_length, next_ready}
-use Rattle.session_model.specs.World.{World, thread_at}
+use Rattle.session_model.specs.World.{thread_at}
 use Rattle.session_model.proofs.PipeLegal.{burst_most}
 use Rattle.session_model.proofs.PipeRests.{quiet_when}
 use Rattle.server_laws.specs.Small.{IsSmall}
@@ -21,10 +20,10 @@ use Rattle.swank_core.specs.declared.fault.CoreFault.{CoreFault}
 use Rattle.swank_session.specs.Course.{between, steps_left, whole, IsLive, IsFree, IsPaused, IsAtRest, IsNearer, Later, Arrives, IsOverAfter, Reaches, closed, spent, Halts, halt_of, Writes, Paid, Pays, Spends}
 use Rattle.swank_session.specs.declared.ends.Halt.{Halt}
 use Rattle.swank_session.specs.declared.ends.Halt.TheVariants as halt
-use Rattle.swank_session.proofs.EventLemmas.{Drained, drained-by, Lent, lent-by, Ran, ran-by, Came, came-by, Over, over-by, Refused, refused-by, has-place, room-left, more-entry, later-later, later-same, closed-halted, or_false}
-use Rattle.swank_session.proofs.NextLemmas.{next-found, next-round, next-ready, quiet-none, ready-busy, ready-open, lent-busy, and-none}
+use Rattle.swank_session.proofs.EventLemmas.{Drained, Lent, lent-by, ran-by, Came, came-by, Over, Refused, refused-by, has-place, room-left, more-entry, later-later, closed-halted, or_false}
+use Rattle.swank_session.proofs.NextLemmas.{next-found, next-round, next-ready, quiet-none, ready-busy, lent-busy, and-none}
 use Rattle.swank_session.proofs.RunLemmas.{run_empty}
-use Rattle.swank_session.proofs.ScheduleLemmas.{HasPlace, lending, whole-begins, lends-next, bursts-next, arrives-next, ends-next, closed-stops, spent-stops, any-round}
+use Rattle.swank_session.proofs.ScheduleLemmas.{lending, whole-begins, lends-next, bursts-next, arrives-next, ends-next, closed-stops, spent-stops, any-round}
 use Rattle.swank_session.proofs.WriteLemmas.{pays-batch, paid-same}
 
 -- ---- parts in a row

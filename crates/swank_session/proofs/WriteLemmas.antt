@@ -1,19 +1,15 @@
 -- Batches that are written one after another.
-use Rattle.std.proofs.Common.{◌≡◌, ◌≢◌, ℕ, ◌+◌, ◌-◌, ◌^◌, ◌<◌, ◌≤◌, min, Bool, true, false, List, [], ◌∷◌, ◌++◌, length, take, drop, Option, Some, None, Result, Ok, Err, refl, sym, ap, ◌∙◌, subst, append_assoc, append-nil, length-append, length-take, arith}
+use Rattle.std.proofs.Common.{◌≡◌, ◌≢◌, ℕ, ◌+◌, ◌-◌, ◌^◌, ◌≤◌, min, List, [], ◌++◌, length, take, drop, Option, Some, None, Result, Ok, Err, refl, sym, ap, ◌∙◌, subst, append_assoc, append-nil, length-append, length-take, arith}
 use Rattle.std.proofs.lemmas.List.{take-append-drop}
 use mathlib.Core.List.{IsPrefix}
 use Rattle.outside_traits.specs.Told.{BothTold}
 use Rattle.rpc_messages.specs.declared.to_emacs.ToEmacs.{ToEmacs}
-use Rattle.session_model.specs.declared.event.Event.TheVariants.{Drain}
 use Rattle.session_model.specs.Journal.{outputs, run}
-use Rattle.session_model.specs.Pipe.{by_pipe}
 use Rattle.session_model.specs.Wire.{frames}
-use Rattle.session_model.specs.World.{World}
 use Rattle.session_model.proofs.Outputs.{outputs_are_written}
 use Rattle.server_rules.specs.Rules.{rules}
 use Rattle.swank_core.specs.Session.{Session, world}
-use Rattle.swank_session.specs.Course.{Sent, Writes, Paid, Pays}
-use Rattle.swank_session.specs.Promises.{IsCut}
+use Rattle.swank_session.specs.Course.{Writes, Paid, Pays}
 use Rattle.swank_session.specs.declared.ends.Halt.{Halt}
 use Rattle.swank_session.specs.declared.ends.Halt.TheVariants as halt
 use Rattle.swank_session.proofs.EventLemmas.{Drained, frames-append}

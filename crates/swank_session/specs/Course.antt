@@ -1,5 +1,5 @@
 -- The course of a session over a pipe: its journal so far, what the schedule still adds, and what is written.
-use Rattle.std.specs.Prelude.{◌≡◌, ◌≢◌, ℕ, ◌+◌, ◌-◌, ◌^◌, ◌<◌, ◌≤◌, nat_le, min, Bool, true, false, ◌&&◌, not, List, [], ◌∷◌, ◌++◌, length, ◌⊎◌, Option, Some, None, Result, Ok, Err, IfOk, IfErr, OnOk}
+use Rattle.std.specs.Prelude.{◌≡◌, ◌≢◌, ℕ, ◌+◌, ◌-◌, ◌^◌, ◌<◌, ◌≤◌, nat_le, min, Bool, true, false, ◌&&◌, not, List, [], ◌∷◌, ◌++◌, length, ◌⊎◌, Option, None, Result, Ok, Err, IfOk, IfErr, OnOk}
 use mathlib.Core.List.{IsPrefix}
 use Rattle.inlet.specs.Calls.{Call, Runs, all_given, all_read}
 use Rattle.inlet.specs.Pump.{NothingLeft, input_limit}

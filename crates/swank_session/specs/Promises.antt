@@ -13,7 +13,7 @@ use Rattle.session_model.specs.World.{World}
 use Rattle.server_rules.specs.Rules.{rules}
 use Rattle.swank_session.specs.Stream.{behind, messages}
 use Rattle.swank_session.specs.declared.outcome.Status.{Status}
-use Rattle.swank_session.specs.declared.outcome.Status.TheVariants.{Ok, Usage, NoMemory, ReadFault, WriteFault, BadHeader, Truncated, InputLimit, Budget, JournalFull}
+use Rattle.swank_session.specs.declared.outcome.Status.TheVariants.{Ok, NoMemory, ReadFault, WriteFault, BadHeader, Truncated, InputLimit}
 
 -- the source tells what is left, and these octets were taken from its front
 abbrev pub Took : Option (List ℕ) → Option (List ℕ) → List ℕ → Type 0

@@ -1,4 +1,4 @@
-use Rattle.std.proofs.Common.{rules, ◌≡◌, ◌∙◌, ◌++◌, ap, sym}
+use Rattle.std.proofs.Common.{◌∙◌, ◌++◌, ap, sym}
 use Rattle.std.specs.Prelude.{codes}
 use Rattle.lisp_step.proofs.NameLemmas.{unquoted}
 use Rattle.lisp_step.proofs.bound_package.without_quotes.Goals as goal

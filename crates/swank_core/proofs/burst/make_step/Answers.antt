@@ -1,4 +1,4 @@
-use Rattle.std.proofs.Common.{◌≡◌, [], false, refl, ap, ◌∙◌}
+use Rattle.std.proofs.Common.{[], false, refl, ap, ◌∙◌}
 use Rattle.std.specs.Prelude.{◌&&◌, ◌==◌, not}
 use Rattle.lisp_frames.specs.Stack.{StackState}
 use Rattle.lisp_step.specs.Machine as machine

@@ -1,4 +1,4 @@
-use Rattle.std.proofs.Common.{◌≡◌, ◌∷◌, List, ℕ, reverse, sym, ap, ◌∙◌, subst}
+use Rattle.std.proofs.Common.{◌∷◌, List, ℕ, reverse, sym, ap, ◌∙◌, subst}
 use Rattle.session_model.specs.Arriving.{workers_without}
 use Rattle.swank_core.specs.Workers.{AreWorkers}
 use Rattle.swank_core.proofs.WorkerLemmas.{reverse_pushed, workers_front, workers_less}

@@ -1,4 +1,4 @@
-use Rattle.std.proofs.Common.{◌≡◌, ◌∙◌, ℕ, List, inl, Ok, Err, refl, sym, ap, subst, arith}
+use Rattle.std.proofs.Common.{◌∙◌, ℕ, inl, refl, sym, ap, subst, arith}
 use Rattle.inlet.specs.declared.pumping.Pumped.TheVariants as pumped
 use Rattle.server_laws.proofs.Payloads.{message_small}
 use Rattle.swank_core.specs.Session.{Session}

@@ -1,4 +1,4 @@
-use Rattle.std.proofs.Common.{◌≡◌, ◌∙◌, ℕ, List, [], ◌∷◌, Bool, true, false, Err, refl, sym, ap, arith}
+use Rattle.std.proofs.Common.{◌∙◌, [], true}
 use Rattle.session_model.specs.Pipe.{Cursor}
 use Rattle.swank_session.specs.Course.{between}
 use Rattle.swank_session.proofs.EventLemmas.{over-by}

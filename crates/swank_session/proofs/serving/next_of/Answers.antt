@@ -1,4 +1,4 @@
-use Rattle.std.proofs.Common.{◌≡◌, sym, ◌∙◌}
+use Rattle.std.proofs.Common.{sym, ◌∙◌}
 use Rattle.swank_session.proofs.NextLemmas.{next-ready}
 use Rattle.swank_session.proofs.TurnLemmas.{found-above, found-round, ready-if}
 use Rattle.swank_core.specs.Session.{world}

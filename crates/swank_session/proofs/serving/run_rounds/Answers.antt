@@ -1,4 +1,4 @@
-use Rattle.std.proofs.Common.{◌≡◌, ◌∙◌, ℕ, List, [], Bool, false, Err, refl, sym, ap, arith}
+use Rattle.std.proofs.Common.{◌∙◌, false, Err, refl, sym, ap, arith}
 use Rattle.session_model.specs.declared.limits.Limits.{Limits}
 use Rattle.swank_session.specs.Course.{between}
 use Rattle.swank_session.specs.declared.ends.Halt.TheVariants as halt

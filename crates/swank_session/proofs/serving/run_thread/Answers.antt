@@ -1,5 +1,4 @@
-use Rattle.std.proofs.Common.{◌≡◌, ℕ, List, [], Bool, false, Err, refl, sym, ap, ◌∙◌, arith}
-use Rattle.rpc_messages.specs.declared.from_emacs.FromEmacs.{FromEmacs}
+use Rattle.std.proofs.Common.{ℕ, [], false, Err, ap, arith}
 use Rattle.session_model.specs.declared.limits.Limits.{Limits}
 use Rattle.session_model.specs.Pipe.{Cursor}
 use Rattle.swank_core.specs.declared.loan.Loan.{Loan}

@@ -1,5 +1,4 @@
-use Rattle.std.proofs.Common.{◌≡◌, ◌∙◌, ℕ, List, [], ◌∷◌, Bool, false, Err, refl, sym, ap, arith}
-use Rattle.session_model.specs.declared.limits.Limits.{Limits}
+use Rattle.std.proofs.Common.{◌∙◌, [], ◌∷◌, false, Err}
 use Rattle.session_model.specs.Pipe.{Cursor}
 use Rattle.swank_session.specs.Course.{between}
 use Rattle.swank_session.proofs.EventLemmas.{later-later}

@@ -1,4 +1,4 @@
-use Rattle.std.proofs.Common.{◌≡◌, ◌≢◌, ◌≤◌, ◌++◌, ℕ, List, length, take, refl, sym, ap, ◌∙◌, subst, arith}
+use Rattle.std.proofs.Common.{◌≡◌, ◌≢◌, ◌≤◌, ◌++◌, ℕ, List, length, take, ap, ◌∙◌, subst}
 use Rattle.outlet.specs.declared.texts.WriteCause.{WriteCause}
 use Rattle.outlet.specs.declared.texts.WriteCause.TheVariants as cause
 use Rattle.outside_traits.specs.Told.{BothTold}

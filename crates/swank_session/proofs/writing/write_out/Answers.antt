@@ -1,10 +1,10 @@
-use Rattle.std.proofs.Common.{◌≡◌, List, refl, sym, ap, ◌∙◌, subst, arith}
+use Rattle.std.proofs.Common.{List, sym, subst, arith}
 use Rattle.std.specs.Prelude.{All}
 use Rattle.rpc_messages.specs.declared.to_emacs.ToEmacs.{ToEmacs}
 use Rattle.server_laws.specs.Small.{FitsPacket}
 use Rattle.swank_session.specs.Course.{Writes}
-use Rattle.swank_session.proofs.EventLemmas.{batch-fits, Drained, drained-by, later-same}
-use Rattle.swank_session.proofs.TurnLemmas.{out-spends, out-reaches, out-paused, none-spends, none-paused}
+use Rattle.swank_session.proofs.EventLemmas.{batch-fits, drained-by}
+use Rattle.swank_session.proofs.TurnLemmas.{out-spends, out-reaches, out-paused}
 use Rattle.swank_session.proofs.writing.write_out.Goals as goal
 
 pub write_batch-requires : goal.write_batch-requires

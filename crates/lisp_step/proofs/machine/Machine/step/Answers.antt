@@ -1,4 +1,3 @@
-use Rattle.std.proofs.Common.{rules}
 use Rattle.lisp_step.proofs.StepLemmas.{image-clause, mailbox-clause, outs-clause, over-clause, simple-clause, stack-clause}
 use Rattle.lisp_step.proofs.machine.Machine.step.Goals as goal
 

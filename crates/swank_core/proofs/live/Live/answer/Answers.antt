@@ -1,10 +1,8 @@
-use Rattle.std.proofs.Common.{◌≡◌, ◌<◌, length, Bool, true, Option, Some, None, refl, sym, ap, ◌∙◌, subst, arith}
-use Rattle.std.specs.Prelude.{is_some, IfSome}
+use Rattle.std.proofs.Common.{◌≡◌, Option, Some, None, refl, sym, ap, ◌∙◌}
+use Rattle.std.specs.Prelude.{IfSome}
 use Rattle.mailboxes.specs.Mail.{AllBefore}
 use Rattle.session_model.specs.World.{Thread, thread_in}
 use Rattle.swank_core.specs.Live.{LiveState}
-use Rattle.swank_core.proofs.PlacedLemmas.{live_within}
-use Rattle.swank_core.proofs.WorkerLemmas.{are_distinct}
 use Rattle.swank_core.proofs.live.Live.answer.Goals as goal
 
 some_of : (P : Thread → Type 0) (o : Option Thread) → ((thread : Thread) → o ≡ Some thread → P thread) → IfSome o P

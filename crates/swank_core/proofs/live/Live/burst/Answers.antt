@@ -1,4 +1,4 @@
-use Rattle.std.proofs.Common.{◌≡◌, length, reverse, List, ℕ, sym, subst}
+use Rattle.std.proofs.Common.{length, reverse, sym, subst}
 use Rattle.swank_core.specs.Workers.{AreWorkers}
 use Rattle.swank_core.proofs.WorkerLemmas.{workers_less}
 use Rattle.swank_core.proofs.live.Live.burst.Goals as goal

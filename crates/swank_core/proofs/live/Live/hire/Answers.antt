@@ -1,5 +1,5 @@
-use Rattle.std.proofs.Common.{◌≡◌, ◌+◌, ◌≤◌, ◌∷◌, [], length, reverse, List, Option, Some, sym, ap, ◌∙◌, subst, arith, length-append}
-use Rattle.session_model.specs.World.{Thread, fresh}
+use Rattle.std.proofs.Common.{◌≡◌, ◌+◌, ◌∷◌, [], length, reverse, List, Some, sym, ap, ◌∙◌, subst, arith, length-append}
+use Rattle.session_model.specs.World.{fresh}
 use Rattle.swank_core.specs.Workers.{AreWorkers}
 use Rattle.swank_core.proofs.WorkerLemmas.{new_pushed, workers_further}
 use Rattle.swank_core.proofs.live.Live.hire.Goals as goal

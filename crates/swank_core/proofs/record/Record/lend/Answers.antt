@@ -1,4 +1,4 @@
-use Rattle.std.proofs.Common.{◌≡◌, Some, refl, sym, ap, ◌∙◌, arith}
+use Rattle.std.proofs.Common.{Some, refl, ap, ◌∙◌, arith}
 use Rattle.swank_core.specs.Threads.{thread_of}
 use Rattle.swank_core.specs.declared.record.Record.{Record}
 use Rattle.swank_core.proofs.ThreadLemmas.{lends_broken, lends_whole}

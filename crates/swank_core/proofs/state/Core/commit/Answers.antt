@@ -1,12 +1,9 @@
-use Rattle.std.proofs.Common.{◌≡◌, ◌+◌, ◌<◌, ◌≤◌, List, [], length, true, false, refl, sym, ap, ◌∙◌, subst, arith}
+use Rattle.std.proofs.Common.{◌≡◌, ◌+◌, ◌<◌, ◌≤◌, length, true, false, refl, sym, ap, ◌∙◌, subst, arith}
 use Rattle.server_rules.specs.Rules.{rules}
-use Rattle.session_model.specs.declared.event.Entry.{Entry}
-use Rattle.session_model.specs.declared.event.Event.TheVariants.{Arrive, End, Lend, Burst, Drain}
+use Rattle.session_model.specs.declared.event.Event.TheVariants.{Burst}
 use Rattle.session_model.specs.Journal.{run}
 use Rattle.session_model.specs.Legal.{IsLentTo}
 use Rattle.session_model.specs.World.{thread_at}
-use Rattle.step_model.specs.Image.{ImageState}
-use Rattle.swank_core.specs.Live.{shown}
 use Rattle.swank_core.specs.Session.{Session, world}
 use Rattle.swank_core.proofs.LegalLemmas.{legal_burst}
 use Rattle.swank_core.proofs.TiesLemmas.{before_end, behind_end, entry, fits_more, ties_burst}

@@ -1,13 +1,7 @@
-use Rattle.std.proofs.Common.{◌≡◌, ◌+◌, ◌<◌, ◌≤◌, List, [], length, true, false, refl, sym, ap, ◌∙◌, subst, arith}
-use Rattle.server_rules.specs.Rules.{rules}
-use Rattle.session_model.specs.declared.event.Entry.{Entry}
-use Rattle.session_model.specs.declared.event.Event.TheVariants.{Arrive, End, Lend, Burst, Drain}
-use Rattle.session_model.specs.Journal.{run}
-use Rattle.session_model.specs.Legal.{is_ready}
+use Rattle.std.proofs.Common.{sym, ap, ◌∙◌}
 use Rattle.session_model.specs.World.{start}
 use Rattle.step_model.specs.Image.{ImageState}
 use Rattle.swank_core.specs.Live.{shown}
-use Rattle.swank_core.specs.Session.{Session, world}
 use Rattle.swank_core.proofs.LegalLemmas.{legal_open}
 use Rattle.swank_core.proofs.TiesLemmas.{fits_open, ties_open}
 use Rattle.swank_core.proofs.state.Core.open.Goals as goal

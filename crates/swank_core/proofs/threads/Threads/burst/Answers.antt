@@ -1,8 +1,7 @@
-use Rattle.std.proofs.Common.{◌≡◌, ◌<◌, ◌++◌, ℕ, Bool, true, false, length, List, Option, Some, None, sym, ap, ◌∙◌, subst}
+use Rattle.std.proofs.Common.{◌≡◌, ◌++◌, ℕ, true, false, List, Option, Some, None, sym, ap, ◌∙◌, subst}
 use Rattle.std.specs.Prelude.{is_some, slice_set}
 use Rattle.std.proofs.lemmas.List.{set-set}
 use Rattle.lisp_step.specs.declared.machine.Machine.{Machine}
-use Rattle.mailboxes.specs.declared.mailbox.Mailbox.{Mailbox}
 use Rattle.server_rules.specs.Simple.{are_simple}
 use Rattle.session_model.specs.World.{Thread}
 use Rattle.swank_core.specs.Bursts.{swept_from, IsBurst, Runs}

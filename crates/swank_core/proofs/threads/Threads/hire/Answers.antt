@@ -3,7 +3,7 @@ use Rattle.lisp_step.specs.declared.machine.Machine.{Machine}
 use Rattle.server_rules.specs.Simple.{are_simple}
 use Rattle.session_model.specs.Arriving.{posted}
 use Rattle.session_model.specs.World.{Thread, fresh}
-use Rattle.swank_core.specs.Threads.{AreKept, number_of, thread_of, threads_of}
+use Rattle.swank_core.specs.Threads.{AreKept, thread_of, threads_of}
 use Rattle.swank_core.proofs.TableLemmas.{long_as, push_kept}
 use Rattle.swank_core.proofs.threads.Threads.hire.Goals as goal
 

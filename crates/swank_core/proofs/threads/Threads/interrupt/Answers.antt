@@ -1,9 +1,9 @@
-use Rattle.std.proofs.Common.{◌≡◌, ◌<◌, ◌^◌, None, Some, false, true, sym, ap, ◌∙◌, subst}
-use Rattle.std.specs.Prelude.{is_some, IfSome, slice_set}
+use Rattle.std.proofs.Common.{◌<◌, ◌^◌, sym, ap, ◌∙◌, subst}
+use Rattle.std.specs.Prelude.{is_some, IfSome}
 use Rattle.server_rules.specs.Simple.{are_simple}
 use Rattle.session_model.specs.World.{Thread}
 use Rattle.lisp_step.specs.declared.machine.Machine.{Machine}
-use Rattle.swank_core.specs.Threads.{interrupted_once, thread_of}
+use Rattle.swank_core.specs.Threads.{interrupted_once}
 use Rattle.swank_core.proofs.TableLemmas.{changed_none, kept_ascending, none_live, stands, stands_changed, stands_live, stands_set, stands_simple}
 use Rattle.swank_core.proofs.threads.Threads.interrupt.Goals as goal
 

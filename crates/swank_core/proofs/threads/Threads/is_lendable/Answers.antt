@@ -1,4 +1,4 @@
-use Rattle.std.proofs.Common.{false, Some, sym, ap, ◌∙◌}
+use Rattle.std.proofs.Common.{false, sym, ap, ◌∙◌}
 use Rattle.std.specs.Option.{option_map_or}
 use Rattle.session_model.specs.Legal.{is_lendable}
 use Rattle.swank_core.proofs.TableLemmas.{kept_ascending, none_live, stands, stands_live}

@@ -1,4 +1,4 @@
-use Rattle.std.proofs.Common.{sym, ◌∙◌}
+use Rattle.std.proofs.Common.{sym}
 use Rattle.swank_core.specs.Threads.{lent_to}
 use Rattle.swank_core.proofs.TableLemmas.{changed_none, kept_ascending, none_live, stands, stands_changed, stands_set, stands_simple}
 use Rattle.swank_core.proofs.threads.Threads.lend.Goals as goal

@@ -1,4 +1,4 @@
-use Rattle.std.proofs.Common.{◌≡◌, ℕ, ◌+◌, ◌≤◌, List, length, Option, None, false, sym, ap, ◌∙◌, subst, arith}
+use Rattle.std.proofs.Common.{◌≡◌, ◌+◌, ◌≤◌, List, length, Option, false, sym, ap, ◌∙◌, subst, arith}
 use Rattle.std.specs.Prelude.{drop, find, IfSome, ◌<◌, ◌^◌}
 use Rattle.std.specs.Option.{option_map_or}
 use Rattle.session_model.specs.Legal.{is_lendable}

@@ -1,5 +1,5 @@
-use Rattle.std.proofs.Common.{◌≡◌, ◌<◌, ◌^◌, None, Some, false, true, sym, ap, ◌∙◌, subst}
-use Rattle.std.specs.Prelude.{is_some, IfSome, slice_set}
+use Rattle.std.proofs.Common.{sym, ap, ◌∙◌, subst}
+use Rattle.std.specs.Prelude.{is_some, IfSome}
 use Rattle.server_rules.specs.Simple.{are_simple}
 use Rattle.session_model.specs.World.{Thread}
 use Rattle.lisp_step.specs.declared.machine.Machine.{Machine}
