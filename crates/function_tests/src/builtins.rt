@@ -59,7 +59,8 @@ fn gives(alloc: Global, call: &str, want: &str) -> Result<bool, NoMemory> {
     let Ok(form) = read_form(alloc, &Text::of(alloc, call)?) else {
         return Ok(false);
     };
-    let Value::List(parts) = value_of(alloc, &form)? else {
+    let form = value_of(alloc, &form)?;
+    let Value::List(parts) = &form else {
         return Ok(false);
     };
     let [function, args @ ..] = parts.as_slice() else {

@@ -1,4 +1,4 @@
--- What a layer becomes with the value of the term inside it, apart: what its form meets next, or the layer and the value.
+-- What a layer becomes with the value of what is inside it, apart: what its form meets next, or the layer and the value.
 use Rattle.std.specs.Prelude.{Option, Some, None}
 use Rattle.lisp_data.specs.declared.value.Value.{Value}
 use Rattle.term_model.specs.declared.found.Found.{Found}

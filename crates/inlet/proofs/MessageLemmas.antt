@@ -12,7 +12,7 @@ use Rattle.sexp_reader.specs.declared.fault.ReadFault.TheVariants.{NoMemory}
 use Rattle.sexp_reader.specs.Grammar.{IsSpelled}
 use Rattle.lisp_data.specs.declared.sexp.Sexp.{Sexp}
 use Rattle.rpc_messages.specs.Incoming.{message_in}
-use Rattle.fault_names.specs.Names.{fault_name}
+use Rattle.sexp_reader.specs.Names.{fault_name}
 use Rattle.inlet.specs.Messages.{IsMessageOf, is_no_text, is_no_form, is_form, message_or_unknown, AreMessagesOf, none, next}
 
 -- what holds of a message holds of the one that was answered

@@ -1,7 +1,7 @@
 -- The messages of payloads, as `read-message` of SLIME's `swank/rpc.lisp` reads them.
 use Rattle.std.specs.Prelude.{◌≡◌, ℕ, List, [], ◌∷◌, codes, Option, Some, None}
 use Rattle.std.specs.Str.{chars, IsUtf8}
-use Rattle.fault_names.specs.Names.{fault_name}
+use Rattle.sexp_reader.specs.Names.{fault_name}
 use Rattle.lisp_data.specs.declared.sexp.Sexp.{Sexp}
 use Rattle.packet_framing.specs.Packets.{first_packet, packets}
 use Rattle.rpc_messages.specs.Cut.{cut}

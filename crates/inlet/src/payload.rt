@@ -1,11 +1,10 @@
 ghost use Rattle.std.specs.Prelude.{◌≡◌, ◌≢◌, [], IfOk, codes};
-ghost use Rattle.fault_names.specs.Names.{fault_name};
+ghost use Rattle.sexp_reader.specs.Names.{fault_name};
 ghost use Rattle.inlet.specs.Messages.{IsMessageOf, message_or_unknown};
 ghost use Rattle.rpc_messages.specs.Cut.{cut};
 ghost use Rattle.rpc_messages.specs.Incoming.{message_in};
 ghost use Rattle.rpc_messages.specs.declared.from_emacs.FromEmacs.TheVariants as message;
 
-use fault_names::fault_name;
 use lisp_data::{NoMemory, Sexp, Text};
 use rpc_messages::{FromEmacs, MessageFault, cut as cut_text, of_sexp};
 use sexp_reader::{ReadFault, read_form};
@@ -36,7 +35,7 @@ fn message_of_fault(alloc: Global, packet: &str, fault: ReadFault) -> Result<Fro
 {
     match fault {
         ReadFault::NoMemory => Err(NoMemory),
-        _ => unreadable(alloc, packet, fault_name(fault)),
+        _ => unreadable(alloc, packet, fault.name()),
     }
 }
 

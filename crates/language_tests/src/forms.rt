@@ -1,33 +1,37 @@
-use lisp_data::{Boxed, NoMemory, Rows, Symbol, Text, Value};
-use lisp_syntax::{Ast, Name, unparse};
+use lisp_data::{NoMemory, Rows, Shared, Symbol, Text, Value};
+use lisp_syntax::unparse;
 use std::alloc::Global;
 use std::test::Fail;
+use syntax_trees::{Ast, Bare, Name, Row};
 
-fn symbol(alloc: Global, home: &str, name: &str) -> Result<Symbol, NoMemory> {
+fn variable(alloc: Global) -> Result<Symbol, NoMemory> {
     Ok(Symbol {
-        home: Text::of(alloc, home)?,
-        name: Text::of(alloc, name)?,
+        home: Text::of(alloc, "COMMON-LISP-USER")?,
+        name: Text::of(alloc, "X")?,
+    })
+}
+
+fn node(alloc: Global, row: Row, forms: Rows<Ast>) -> Result<Ast, NoMemory> {
+    Ok(Ast {
+        row,
+        forms: Shared::new(alloc, forms)?,
     })
 }
 
 /// The tree of `(when x 7)`.
 fn tree(alloc: Global) -> Result<Ast, NoMemory> {
-    let test = Ast::Variable(Name::of(symbol(alloc, "COMMON-LISP-USER", "X")?));
-    let mut body = Rows::new(alloc);
-    body.push(Ast::Literal(Value::Int(7)))?;
-    Ok(Ast::When {
-        test: Boxed::new(alloc, test)?,
-        body,
-    })
+    let name = Name::new(alloc, variable(alloc)?)?;
+    let mut forms = Rows::new(alloc);
+    forms.push(node(alloc, Row::Variable(name), Rows::new(alloc))?)?;
+    forms.push(node(alloc, Row::Literal(Value::Int(7)), Rows::new(alloc))?)?;
+    node(alloc, Row::Bare(Bare::When), forms)
 }
 
 /// `(when x 7)`.
 fn form(alloc: Global) -> Result<Value, NoMemory> {
-    let mut items = Rows::new(alloc);
-    items.push(Value::Sym(symbol(alloc, "COMMON-LISP", "WHEN")?))?;
-    items.push(Value::Sym(symbol(alloc, "COMMON-LISP-USER", "X")?))?;
-    items.push(Value::Int(7))?;
-    Ok(Value::List(items))
+    let operator = Value::Sym(Symbol::common_lisp(alloc, "WHEN")?);
+    let variable = Value::Sym(variable(alloc)?);
+    Value::list(alloc, [operator, variable, Value::Int(7)])
 }
 
 /// The form of this tree.

@@ -1,16 +1,15 @@
 use lisp_data::{NoMemory, Symbol, Value};
 use std::alloc::Global;
 use std::test::Fail;
-use syntax_rows::{cl, is_keyword, is_nil, keyword, value_of_symbol};
 
 /// Whether a symbol that is made as a keyword is one, and not NIL.
 fn is_made_keyword(symbol: Symbol) -> bool {
-    is_keyword(&symbol) && !is_nil(&symbol)
+    symbol.is_keyword() && !symbol.is_nil()
 }
 
 /// Whether a symbol of COMMON-LISP is neither a keyword nor NIL.
 fn is_none_of_both(symbol: Symbol) -> bool {
-    !is_keyword(&symbol) && !is_nil(&symbol)
+    !symbol.is_keyword() && !symbol.is_nil()
 }
 
 fn is_empty_list(value: &Value) -> bool {
@@ -26,8 +25,8 @@ fn is_symbol(value: &Value) -> bool {
 
 /// The value of the symbol of COMMON-LISP with this name.
 fn value(alloc: Global, name: &str) -> Result<Value, NoMemory> {
-    let symbol = cl(alloc, name)?;
-    value_of_symbol(alloc, &symbol)
+    let symbol = Symbol::common_lisp(alloc, name)?;
+    Value::symbol(alloc, &symbol)
 }
 
 fn nil_is_the_empty_list(alloc: Global) -> Result<bool, NoMemory> {
@@ -43,7 +42,8 @@ fn another_symbol_is_itself(alloc: Global) -> Result<bool, NoMemory> {
 #[test]
 fn symbols_are_made_where_memory_is_there(rt: HostRuntime) -> Result<(), Fail> {
     let alloc = rt.alloc();
-    let are_so = is_made_keyword(keyword(alloc, "X")?) && is_none_of_both(cl(alloc, "CAR")?);
+    let are_so = is_made_keyword(Symbol::keyword(alloc, "X")?)
+        && is_none_of_both(Symbol::common_lisp(alloc, "CAR")?);
     assert!(rt; are_so);
     Ok(())
 }

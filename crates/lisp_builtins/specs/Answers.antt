@@ -1,5 +1,6 @@
 -- What a function answers: a value, or a condition that it raises.
-use Rattle.std.specs.Prelude.{◌≡◌, ℕ, Bool, true, false, List, [], codes, Result, Ok, Err, if◌then◌else◌}
+use Rattle.std.specs.Prelude.{◌≡◌, ℕ, List, Result, Ok, Err, if◌then◌else◌}
+use Rattle.lisp_data.specs.Symbols.{cl}
 use Rattle.lisp_data.specs.declared.value.Value.{Value}
 use Rattle.lisp_data.specs.declared.value.Value.TheVariants as value
 use Rattle.lisp_data.specs.declared.value.Condition.{Condition}
@@ -13,12 +14,7 @@ use Rattle.lisp_builtins.specs.declared.op.Op.{Op}
 
 -- a symbol of COMMON-LISP
 abbrev pub standard_symbol : List ℕ → Value
-standard_symbol name = value.Sym (record { home = codes "COMMON-LISP"; name = name })
-
--- T or NIL
-abbrev pub truth : Bool → Value
-truth true = standard_symbol (codes "T")
-truth false = value.List []
+standard_symbol name = value.Sym (cl name)
 
 -- the answer to too few or too many arguments
 abbrev pub refused_number : List ℕ → Op → Result Value Condition

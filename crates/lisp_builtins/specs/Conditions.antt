@@ -1,6 +1,7 @@
 -- MAKE-CONDITION (HyperSpec 9.2), with the keywords of simple conditions.
 use Rattle.std.specs.Prelude.{◌&&◌, ◌++◌, ℕ, Bool, false, List, [], ◌∷◌, codes, Option, Some, None, Result, Ok, Err, if◌then◌else◌}
 use Rattle.std.specs.Str.{bytes_eq}
+use Rattle.lisp_data.specs.Symbols.{is_keyword}
 use Rattle.lisp_data.specs.declared.type_id.TypeId.{TypeId}
 use Rattle.lisp_data.specs.declared.type_id.TypeId.TheVariants as type
 use Rattle.lisp_data.specs.declared.value.Value.{Value}
@@ -15,8 +16,8 @@ use Rattle.lisp_errors.specs.declared.wanted.Wanted.TheVariants as wanted
 use Rattle.lisp_format.specs.Formatted.{formatted}
 use Rattle.lisp_format.specs.declared.fault.FormatFault.{FormatFault}
 use Rattle.lisp_format.specs.declared.fault.FormatFault.TheVariants as fault
-use Rattle.lisp_types.specs.Types.{name_of as type_name}
-use Rattle.type_tests.specs.Kinds.{is_kind}
+use Rattle.lisp_data.specs.TypeNames.{name_of as type_name}
+use Rattle.lisp_types.specs.Kinds.{is_kind}
 use Rattle.lisp_builtins.specs.Answers.{refused_number, refused_kind}
 use Rattle.lisp_builtins.specs.Values.{type_in}
 use Rattle.lisp_builtins.specs.declared.op.Op.{Op}
@@ -30,7 +31,7 @@ abbrev pub condition_type_in : Value → Option TypeId
 condition_type_in v = only_condition (type_in v)
 
 abbrev pub is_key_at : List ℕ → Value-F Value Condition → Bool
-is_key_at name (Value-F.Sym s) = bytes_eq s.home (codes "KEYWORD") && bytes_eq s.name name
+is_key_at name (Value-F.Sym s) = is_keyword s && bytes_eq s.name name
 is_key_at name _ = false
 
 -- whether a value is the keyword of that name

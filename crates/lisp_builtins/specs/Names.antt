@@ -2,6 +2,7 @@
 use Rattle.std.specs.Prelude.{ℕ, List, codes, Option, None, if◌then◌else◌}
 use Rattle.std.specs.List.{find}
 use Rattle.std.specs.Str.{bytes_eq}
+use Rattle.lisp_data.specs.Symbols.{is_of_common_lisp}
 use Rattle.lisp_data.specs.declared.symbol.Symbol.{Symbol}
 use Rattle.lisp_builtins.specs.declared.op.TheConstants.{ALL}
 use Rattle.lisp_builtins.specs.declared.op.Op.{Op}
@@ -76,4 +77,4 @@ name_of op.MakeCondition = codes "MAKE-CONDITION"
 
 -- the function that a symbol names: the one of that name, where the symbol's home is COMMON-LISP
 abbrev pub op_of : Symbol → Option Op
-op_of symbol = if bytes_eq symbol.home (codes "COMMON-LISP") then find (λ o. bytes_eq (name_of o) symbol.name) ALL else None
+op_of symbol = if is_of_common_lisp symbol then find (λ o. bytes_eq (name_of o) symbol.name) ALL else None

@@ -2,6 +2,7 @@
 use Rattle.std.specs.Prelude.{ℕ, ℤ, pos, int_lt, Bool, true, false, not, List, [], ◌∷◌, Option, Some, None, Result, Ok, Err}
 use Rattle.std.specs.List.{find}
 use Rattle.std.specs.Ordering.{int_eq}
+use Rattle.lisp_data.specs.Parts.{truth}
 use Rattle.lisp_data.specs.declared.value.Value.{Value}
 use Rattle.lisp_data.specs.declared.value.Value.TheVariants as value
 use Rattle.lisp_data.specs.declared.value.Value.TheOpen.{Value-F}
@@ -14,7 +15,7 @@ use Rattle.lisp_numbers.specs.declared.computed.Computed.TheVariants as computed
 use Rattle.lisp_numbers.specs.Range.{sum_of, product_of, difference_of, absolute_of, successor_of, predecessor_of}
 use Rattle.lisp_numbers.specs.Division.{quotient_of, floor_of, mod_of, truncate_of, rem_of}
 use Rattle.lisp_numbers.specs.Order.{neighbours_hold, least_of, greatest_of, is_even}
-use Rattle.lisp_builtins.specs.Answers.{truth, refused_number, refused_kind}
+use Rattle.lisp_builtins.specs.Answers.{refused_number, refused_kind}
 use Rattle.lisp_builtins.specs.declared.op.Op.{Op}
 use Rattle.lisp_builtins.specs.declared.signature.Total.{Total}
 use Rattle.lisp_builtins.specs.declared.signature.Total.TheVariants as total

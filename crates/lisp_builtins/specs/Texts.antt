@@ -1,5 +1,6 @@
 -- The functions of strings and of what stands for a name (HyperSpec 16.2, and 10.2 for SYMBOL-NAME).
 use Rattle.std.specs.Prelude.{ℕ, List, [], ◌∷◌, codes, Option, Some, None, Result, Ok}
+use Rattle.lisp_data.specs.Parts.{truth}
 use Rattle.lisp_data.specs.declared.value.Value.{Value}
 use Rattle.lisp_data.specs.declared.value.Value.TheVariants as value
 use Rattle.lisp_data.specs.declared.value.Value.TheOpen.{Value-F}
@@ -7,7 +8,7 @@ use Rattle.lisp_data.specs.declared.value.Value.TheViews.{out-Value}
 use Rattle.lisp_data.specs.declared.value.Condition.{Condition}
 use Rattle.lisp_errors.specs.declared.wanted.Wanted.TheVariants as wanted
 use Rattle.lisp_sequences.specs.Strings.{string_upcase, string_downcase, string_equal}
-use Rattle.lisp_builtins.specs.Answers.{truth, refused_number, refused_kind}
+use Rattle.lisp_builtins.specs.Answers.{refused_number, refused_kind}
 use Rattle.lisp_builtins.specs.declared.op.Op.{Op}
 use Rattle.lisp_builtins.specs.declared.signature.Naming.{Naming}
 use Rattle.lisp_builtins.specs.declared.signature.Naming.TheVariants as naming

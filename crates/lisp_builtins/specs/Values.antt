@@ -1,33 +1,26 @@
 -- The functions of values of any kind: tests, equality, printing and types (HyperSpec 5.3, 14.2, 10.2, 16.2, 22.4 and 4.4).
-use Rattle.std.specs.Prelude.{ℕ, Bool, true, false, not, List, [], ◌∷◌, codes, Option, Some, None, Result, Ok, if◌then◌else◌}
-use Rattle.std.specs.Str.{bytes_eq}
+use Rattle.std.specs.Prelude.{ℕ, Bool, true, false, not, List, [], ◌∷◌, Option, Some, None, Result, Ok, if◌then◌else◌}
 use Rattle.lisp_data.specs.declared.type_id.TypeId.{TypeId}
+use Rattle.lisp_data.specs.Symbols.{is_keyword as is_keyword_symbol, is_of_common_lisp}
+use Rattle.lisp_data.specs.Parts.{is_nil_value, truth}
 use Rattle.lisp_data.specs.declared.value.Value.{Value}
 use Rattle.lisp_data.specs.declared.value.Value.TheVariants as value
 use Rattle.lisp_data.specs.declared.value.Value.TheOpen.{Value-F}
 use Rattle.lisp_data.specs.declared.value.Value.TheViews.{out-Value}
 use Rattle.lisp_data.specs.declared.value.Condition.{Condition}
 use Rattle.lisp_errors.specs.declared.wanted.Wanted.TheVariants as wanted
-use Rattle.lisp_sequences.specs.Same.{same_value}
+use Rattle.lisp_data.specs.Same.{same_value}
 use Rattle.lisp_types.specs.Types.{type_of}
-use Rattle.lisp_types.specs.Types.{name_of as type_name}
+use Rattle.lisp_data.specs.TypeNames.{name_of as type_name}
 use Rattle.sexp_printer.specs.UserText.{user_text}
-use Rattle.type_tests.specs.Kinds.{is_kind, type_by_name}
-use Rattle.lisp_builtins.specs.Answers.{standard_symbol, truth, refused_number, refused_kind}
+use Rattle.lisp_types.specs.Kinds.{is_kind, type_by_name}
+use Rattle.lisp_builtins.specs.Answers.{standard_symbol, refused_number, refused_kind}
 use Rattle.lisp_builtins.specs.Numbers.{is_integer}
 use Rattle.lisp_builtins.specs.declared.op.Op.{Op}
 use Rattle.lisp_builtins.specs.declared.signature.Any.{Any}
 use Rattle.lisp_builtins.specs.declared.signature.Any.TheVariants as any
 use Rattle.lisp_builtins.specs.declared.signature.Both.{Both}
 use Rattle.lisp_builtins.specs.declared.signature.Both.TheVariants as both
-
-abbrev pub is_nil_at : Value-F Value Condition → Bool
-is_nil_at (Value-F.List []) = true
-is_nil_at _ = false
-
--- NIL, the empty list
-abbrev pub is_nil : Value → Bool
-is_nil v = is_nil_at (out-Value v)
 
 abbrev pub is_cons_at : Value-F Value Condition → Bool
 is_cons_at (Value-F.List (x ∷ xs)) = true
@@ -62,7 +55,7 @@ abbrev pub is_string : Value → Bool
 is_string v = is_string_at (out-Value v)
 
 abbrev pub is_keyword_at : Value-F Value Condition → Bool
-is_keyword_at (Value-F.Sym s) = bytes_eq s.home (codes "KEYWORD")
+is_keyword_at (Value-F.Sym s) = is_keyword_symbol s
 is_keyword_at _ = false
 
 -- a symbol whose home is KEYWORD
@@ -70,7 +63,7 @@ abbrev pub is_keyword : Value → Bool
 is_keyword v = is_keyword_at (out-Value v)
 
 abbrev pub any_of : Any → List ℕ → Value → Result Value Condition
-any_of any.IsNil current v = Ok (truth (is_nil v))
+any_of any.IsNil current v = Ok (truth (is_nil_value v))
 any_of any.IsAtom current v = Ok (truth (not (is_cons v)))
 any_of any.IsCons current v = Ok (truth (is_cons v))
 any_of any.IsList current v = Ok (truth (is_list v))
@@ -89,7 +82,7 @@ of_one_value f op current (v ∷ []) = any_of f current v
 of_one_value f op current _ = refused_number current op
 
 abbrev pub type_in_at : Value-F Value Condition → Option TypeId
-type_in_at (Value-F.Sym s) = if bytes_eq s.home (codes "COMMON-LISP") then type_by_name s.name else None
+type_in_at (Value-F.Sym s) = if is_of_common_lisp s then type_by_name s.name else None
 type_in_at _ = None
 
 -- the type that a value names: a symbol of COMMON-LISP with a type's name does

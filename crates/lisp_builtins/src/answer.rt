@@ -1,10 +1,10 @@
 ghost use Rattle.std.specs.Prelude.{◌≡◌, IfOk, Err};
 ghost use Rattle.lisp_errors.specs.Limits.{value_too_large};
-ghost use Rattle.lisp_builtins.specs.Answers.{standard_symbol, truth, refused_number, refused_kind, Answers};
+ghost use Rattle.lisp_builtins.specs.Answers.{standard_symbol, refused_number, refused_kind, Answers};
 
 use crate::op::name_of;
 use crate::{BuiltinFault, Op};
-use lisp_data::{NoMemory, Rows, Symbol, Text, Value};
+use lisp_data::{NoMemory, Symbol, Text, Value};
 use lisp_errors::{Wanted, value_too_large, wrong_kind, wrong_number_of_arguments};
 use std::alloc::Global;
 
@@ -12,21 +12,7 @@ use std::alloc::Global;
 pub fn standard_symbol(alloc: Global, name: &str) -> Result<Value, NoMemory>
     ensures { IfOk result (λ v. v ≡ standard_symbol name.now) }
 {
-    Ok(Value::Sym(Symbol {
-        home: Text::of(alloc, "COMMON-LISP")?,
-        name: Text::of(alloc, name)?,
-    }))
-}
-
-/// T or NIL.
-pub fn truth(alloc: Global, holds: bool) -> Result<Value, NoMemory>
-    ensures { IfOk result (λ v. v ≡ truth holds) }
-{
-    if holds {
-        Ok(standard_symbol(alloc, "T")?)
-    } else {
-        Ok(Value::List(Rows::new(alloc)))
-    }
+    Ok(Value::Sym(Symbol::common_lisp(alloc, name)?))
 }
 
 /// The answer to too few or too many arguments.

@@ -7,12 +7,11 @@ ghost use Rattle.lisp_builtins.specs.Conditions.{condition_type_in, is_key, cond
 use crate::answer::{refuse_kind, refuse_number, refuse_size};
 use crate::values::type_in;
 use crate::{BuiltinFault, Op};
-use lisp_data::{Boxed, Condition, NoMemory, Rows, Symbol, Text, TypeId, Value};
+use lisp_data::{Boxed, Condition, NoMemory, Text, TypeId, Value};
 use lisp_errors::{Wanted, bad_directive, too_few_arguments};
 use lisp_format::{FormatFault, format_text};
-use lisp_types::name_of;
+use lisp_types::is_kind;
 use std::alloc::Global;
-use type_tests::is_kind;
 
 /// The type of conditions that a value names, None where it names none.
 fn condition_type_in(value: &Value) -> Option<TypeId>
@@ -29,7 +28,7 @@ fn is_key(value: &Value, name: &str) -> bool
     ensures { result ≡ is_key name.now value.now }
 {
     match value {
-        Value::Sym(symbol) => symbol.home.as_str() == "KEYWORD" && symbol.name.as_str() == name,
+        Value::Sym(symbol) => symbol.is_keyword() && symbol.name.as_str() == name,
         _ => false,
     }
 }
@@ -37,7 +36,7 @@ fn is_key(value: &Value, name: &str) -> bool
 fn condition(alloc: Global, kind: TypeId, message: Text) -> Result<Value, NoMemory>
     ensures { IfOk result (λ v. v ≡ condition_of kind message) }
 {
-    let datum = Value::List(Rows::new(alloc));
+    let datum = Value::nil(alloc);
     let condition = Condition {
         kind,
         message,
@@ -50,7 +49,7 @@ fn plain_message(alloc: Global, kind: TypeId) -> Result<Text, NoMemory>
     ensures { IfOk result (λ message. message ≡ plain_message kind) }
 {
     let mut message = Text::of(alloc, "Condition of type ")?;
-    message.push_str(name_of(kind))?;
+    message.push_str(kind.name())?;
     message.push_str(".")?;
     Ok(message)
 }

@@ -1,7 +1,7 @@
 use lisp_data::{Condition, NoMemory};
 
 /// Why a call has no value.
-#[derive(Debug, Drop)]
+#[derive(Drop)]
 pub enum BuiltinFault {
     /// The function raises this condition.
     Raised(Condition),

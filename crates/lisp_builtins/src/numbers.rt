@@ -3,7 +3,7 @@ ghost use Rattle.std.specs.Prelude.{◌≡◌, ◌++◌, IfOk};
 ghost use Rattle.lisp_builtins.specs.Answers.{Answers};
 ghost use Rattle.lisp_builtins.specs.Numbers.{computed_answer, is_integer, integers_in, first_other, total_of, of_integers, several_of, of_some_integers, pair_of, of_two_integers, single_of, of_one_integer};
 
-use crate::answer::{refuse_kind, refuse_number, truth};
+use crate::answer::{refuse_kind, refuse_number};
 use crate::signature::{Pair, Several, Single, Total};
 use crate::{BuiltinFault, Op};
 use lisp_data::{NoMemory, Rows, Text, Value};
@@ -93,7 +93,7 @@ fn several(
         Several::Difference => computed_answer(alloc, difference(*first, others)),
         Several::Least => Ok(Value::Int(least(*first, others))),
         Several::Greatest => Ok(Value::Int(greatest(*first, others))),
-        Several::Compare(relation) => Ok(truth(alloc, each_pair(relation, *first, others))?),
+        Several::Compare(relation) => Ok(Value::truth(alloc, each_pair(relation, *first, others))?),
     }
 }
 
@@ -122,7 +122,7 @@ fn pair(alloc: Global, function: Pair, a: i64, b: i64) -> Result<Value, BuiltinF
         Pair::Modulo => modulo(a, b),
         Pair::Truncate => truncate(a, b),
         Pair::Remainder => remainder(a, b),
-        Pair::Differ => return Ok(truth(alloc, a != b)?),
+        Pair::Differ => return Ok(Value::truth(alloc, a != b)?),
     };
     computed_answer(alloc, computed)
 }
@@ -138,7 +138,7 @@ pub fn of_two_integers(
 {
     match args {
         [Value::Int(a), Value::Int(b)] => pair(alloc, function, *a, *b),
-        [Value::Int(_), other] => refuse_kind(alloc, other, Wanted::Integer, package),
+        [Value::Int(..), other] => refuse_kind(alloc, other, Wanted::Integer, package),
         [other, _] => refuse_kind(alloc, other, Wanted::Integer, package),
         _ => refuse_number(alloc, op, package),
     }
@@ -151,11 +151,11 @@ fn single(alloc: Global, function: Single, number: i64) -> Result<Value, Builtin
         Single::Absolute => computed_answer(alloc, absolute(number)),
         Single::Successor => computed_answer(alloc, successor(number)),
         Single::Predecessor => computed_answer(alloc, predecessor(number)),
-        Single::IsZero => Ok(truth(alloc, number == 0)?),
-        Single::IsPositive => Ok(truth(alloc, number > 0)?),
-        Single::IsNegative => Ok(truth(alloc, number < 0)?),
-        Single::IsEven => Ok(truth(alloc, is_even(number))?),
-        Single::IsOdd => Ok(truth(alloc, !is_even(number))?),
+        Single::IsZero => Ok(Value::truth(alloc, number == 0)?),
+        Single::IsPositive => Ok(Value::truth(alloc, number > 0)?),
+        Single::IsNegative => Ok(Value::truth(alloc, number < 0)?),
+        Single::IsEven => Ok(Value::truth(alloc, is_even(number))?),
+        Single::IsOdd => Ok(Value::truth(alloc, !is_even(number))?),
     }
 }
 

@@ -219,7 +219,7 @@ pub fn name_of(op: Op) -> &'static str
 pub fn op_of(s: &Symbol) -> Option<Op>
     ensures { result ≡ op_of s.now }
 {
-    if s.home.as_str() == "COMMON-LISP" {
+    if s.is_of_common_lisp() {
         first_named(s.name.as_str())
     } else {
         None

@@ -6,7 +6,7 @@ ghost use Rattle.sexp_printer.specs.UserText.{user_text};
 ghost use Rattle.lisp_builtins.specs.Answers.{Answers, Makes};
 ghost use Rattle.lisp_builtins.specs.Texts.{symbol_name_at, name_at, named_of, of_one_name, of_two_names, of_one_symbol};
 
-use crate::answer::{refuse_kind, refuse_number, refuse_size, truth};
+use crate::answer::{refuse_kind, refuse_number, refuse_size};
 use crate::signature::Naming;
 use crate::{BuiltinFault, Op};
 use lisp_data::{NoMemory, Text, Value};
@@ -90,7 +90,7 @@ pub fn of_two_names(
         return refuse_number(alloc, op, package);
     };
     match (name(a), name(b)) {
-        (Some(x), Some(y)) => Ok(truth(alloc, x == y)?),
+        (Some(x), Some(y)) => Ok(Value::truth(alloc, x == y)?),
         (Some(_), None) => refuse_kind(alloc, b, Wanted::String, package),
         (None, _) => refuse_kind(alloc, a, Wanted::String, package),
     }

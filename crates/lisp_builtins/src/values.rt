@@ -1,28 +1,16 @@
 ghost use Rattle.std.specs.Prelude.{◌≡◌};
 ghost use Rattle.lisp_builtins.specs.Answers.{Answers, Makes};
-ghost use Rattle.lisp_builtins.specs.Values.{is_nil, is_cons, is_list, is_symbol, is_string, is_keyword, any_of, of_one_value, type_in, of_type, both_of, of_two_values};
+ghost use Rattle.lisp_builtins.specs.Values.{is_cons, is_list, is_symbol, is_string, is_keyword, any_of, of_one_value, type_in, of_type, both_of, of_two_values};
 
-use crate::answer::{refuse_kind, refuse_number, standard_symbol, truth};
+use crate::answer::{refuse_kind, refuse_number, standard_symbol};
 use crate::numbers::is_integer;
 use crate::signature::{Any, Both};
 use crate::texts::printed;
 use crate::{BuiltinFault, Op};
-use lisp_data::{Symbol, Text, TypeId, Value};
+use lisp_data::{Text, TypeId, Value};
 use lisp_errors::Wanted;
-use lisp_sequences::same_value;
-use lisp_types::{name_of, type_of};
+use lisp_types::{is_kind, type_by_name, type_of};
 use std::alloc::Global;
-use type_tests::{is_kind, type_by_name};
-
-/// Whether this is NIL.
-fn is_nil(value: &Value) -> bool
-    ensures { result ≡ is_nil value.now }
-{
-    match value {
-        Value::List(items) => items.is_empty(),
-        _ => false,
-    }
-}
 
 /// Whether this is a list with items.
 fn is_cons(value: &Value) -> bool
@@ -60,7 +48,7 @@ fn is_keyword(value: &Value) -> bool
     ensures { result ≡ is_keyword value.now }
 {
     match value {
-        Value::Sym(Symbol { home, .. }) => home.as_str() == "KEYWORD",
+        Value::Sym(symbol) => symbol.is_keyword(),
         _ => false,
     }
 }
@@ -69,7 +57,7 @@ fn any(alloc: Global, function: Any, value: &Value, package: &Text) -> Result<Va
     ensures { Makes result (any_of function «package».now value.now) }
 {
     let holds = match function {
-        Any::IsNil => is_nil(value),
+        Any::IsNil => value.is_nil(),
         Any::IsAtom => !is_cons(value),
         Any::IsCons => is_cons(value),
         Any::IsList => is_list(value),
@@ -79,10 +67,10 @@ fn any(alloc: Global, function: Any, value: &Value, package: &Text) -> Result<Va
         Any::IsKeyword => is_keyword(value),
         Any::Princ => return printed(alloc, value, package, false),
         Any::Prin1 => return printed(alloc, value, package, true),
-        Any::TypeOf => return Ok(standard_symbol(alloc, name_of(type_of(value)))?),
+        Any::TypeOf => return Ok(standard_symbol(alloc, type_of(value).name())?),
         Any::Identity => return Ok(value.copy(alloc)?),
     };
-    Ok(truth(alloc, holds)?)
+    Ok(Value::truth(alloc, holds)?)
 }
 
 pub fn of_one_value(
@@ -105,9 +93,7 @@ pub fn type_in(value: &Value) -> Option<TypeId>
     ensures { result ≡ type_in value.now }
 {
     match value {
-        Value::Sym(Symbol { home, name }) if home.as_str() == "COMMON-LISP" => {
-            type_by_name(name.as_str())
-        }
+        Value::Sym(symbol) if symbol.is_of_common_lisp() => type_by_name(symbol.name.as_str()),
         _ => None,
     }
 }
@@ -121,7 +107,7 @@ fn of_type(
     ensures { Answers result (of_type «package».now value.now kind.now (type_in kind.now)) }
 {
     match type_in(kind) {
-        Some(t) => Ok(truth(alloc, is_kind(type_of(value), t))?),
+        Some(t) => Ok(Value::truth(alloc, is_kind(type_of(value), t))?),
         None => refuse_kind(alloc, kind, Wanted::Type, package),
     }
 }
@@ -136,7 +122,7 @@ fn both(
     ensures { Answers result (both_of function «package».now a.now b.now) }
 {
     match function {
-        Both::AreSame => Ok(truth(alloc, same_value(a, b))?),
+        Both::AreSame => Ok(Value::truth(alloc, a.same(b))?),
         Both::IsOfType => of_type(alloc, a, b, package),
     }
 }

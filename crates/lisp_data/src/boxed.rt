@@ -5,7 +5,6 @@ use std::alloc::Global;
 use std::marker::Model;
 
 /// The owner of one value on the heap, which contracts see as that value and not as a pointer to it.
-#[derive(Debug, Drop)]
 pub struct Boxed<T> {
     inner: Box<T>,
 }
@@ -16,6 +15,12 @@ impl<T> Model for Boxed<T> {
     ghost coded = { T.code };
 
     ghost view = { λ b. b.inner.value };
+}
+
+impl<T: Drop> Drop for Boxed<T> {
+    fn drop(self) {
+        let Boxed { inner: _ } = self;
+    }
 }
 
 impl<T> Boxed<T> {

@@ -1,11 +1,10 @@
 ghost use Rattle.std.specs.Prelude.{◌≡◌, [], ◌∷◌, length, ◌↔◌, IsTrue, MatchOption, OnOk, OnErr};
 
-use crate::NoMemory;
+use crate::{NoMemory, Rows};
 use std::alloc::Global;
 use std::marker::Model;
 
 /// A pile of items, which contracts see as the list of them, the newest first.
-#[derive(Debug, Drop)]
 pub struct Pile<T> {
     items: Vec<T>,
 }
@@ -21,6 +20,12 @@ impl<T> Model for Pile<T> {
     ghost view = { λ p. reverse p.items.items };
 }
 
+impl<T: Drop> Drop for Pile<T> {
+    fn drop(self) {
+        let Pile { items: _ } = self;
+    }
+}
+
 impl<T> Pile<T> {
     /// An empty pile, which takes no memory.
     pub fn new(alloc: Global) -> Pile<T>
@@ -29,6 +34,15 @@ impl<T> Pile<T> {
         Pile {
             items: Vec::new(alloc),
         }
+    }
+
+    /// The pile of these items, the first of them on top. It takes no memory.
+    pub fn of(items: Rows<T>) -> Pile<T>
+        ensures { result ≡ items }
+    {
+        let mut items = items.into_vec();
+        items.reverse();
+        Pile { items }
     }
 
     pub fn len(&self) -> usize

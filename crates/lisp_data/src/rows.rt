@@ -5,7 +5,6 @@ use std::alloc::Global;
 use std::marker::Model;
 
 /// A growing row of items, which contracts see as the list of them.
-#[derive(Debug, Drop)]
 pub struct Rows<T> {
     items: Vec<T>,
 }
@@ -19,6 +18,12 @@ impl<T> Model for Rows<T> {
     ghost coded = { coded_list T.code };
 
     ghost view = { λ r. r.items.items };
+}
+
+impl<T: Drop> Drop for Rows<T> {
+    fn drop(self) {
+        let Rows { items: _ } = self;
+    }
 }
 
 impl<T> Rows<T> {
@@ -36,6 +41,14 @@ impl<T> Rows<T> {
         ensures { result ≡ items.items }
     {
         Rows { items }
+    }
+
+    /// The items, which takes no memory.
+    pub fn into_vec(self) -> Vec<T>
+        ensures { result.items ≡ self }
+    {
+        let Rows { items } = self;
+        items
     }
 
     pub fn as_slice(&self) -> &[T]
@@ -61,6 +74,14 @@ impl<T> Rows<T> {
         ensures { MatchOption result ((self.old ≡ []) × (self.new ≡ [])) (λ last. self.old ≡ self.new ++ last ∷ []) }
     {
         self.items.pop()
+    }
+
+    /// Lets go of a row with no items, whose type need not be `Drop`.
+    pub fn spent(self)
+        requires { self ≡ [] }
+    {
+        let Rows { items } = self;
+        items.destroy_empty();
     }
 
     /// Takes out the item at a place, counted from 0; those behind it move up.
@@ -98,6 +119,16 @@ impl<T: Drop> Rows<T> {
         ensures { self.new ≡ take keep self.old }
     {
         self.items.truncate(keep);
+    }
+
+    /// Adds the items of another row at the end. They are dropped where memory is wanting.
+    pub fn append(&mut self, more: Rows<T>) -> Result<(), NoMemory>
+        ensures ok { OnOk result (self.new ≡ self.old ++ more) }
+        ensures err { OnErr result (self.new ≡ self.old) }
+    {
+        let mut more = more.into_vec();
+        self.items.append(&mut more)?;
+        Ok(())
     }
 
     /// Adds an item at the end. The item is dropped where memory is wanting.

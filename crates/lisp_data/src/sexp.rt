@@ -1,11 +1,13 @@
-ghost use Rattle.std.specs.Prelude.{◌≡◌, ◌↔◌, IsTrue, IfOk};
+ghost use Rattle.std.specs.Prelude.{◌≡◌, ◌↔◌, [], IsTrue, IfOk};
+ghost use Rattle.std.specs.Option.{option_copied};
+ghost use Rattle.lisp_data.specs.Parts.{form_items, form_text, form_token};
 ghost use Rattle.lisp_data.specs.Sexp.{weight_of, depth_of, capped};
+ghost use Rattle.lisp_data.specs.declared.sexp.Sexp.TheVariants as form;
 
 use crate::{NoMemory, Rows, Text};
 use std::alloc::Global;
 
 /// A form as it is read, before its symbols are resolved. NIL is the empty list.
-#[derive(Debug, Drop)]
 pub enum Sexp {
     Int(i64),
     Str(Text),
@@ -14,7 +16,85 @@ pub enum Sexp {
     List(Rows<Sexp>),
 }
 
+/// Lets go of each of these forms. The row is then empty, and is let go without the `Drop` of its items.
+#[cycle(sexp_discard)]
+fn let_go(forms: Rows<Sexp>) {
+    let mut forms = forms;
+    while let Some(form) = forms.pop() {
+        let _gone = form;
+    }
+    forms.spent();
+}
+
+impl Drop for Sexp {
+    #[cycle(sexp_discard)]
+    fn drop(self) {
+        match self {
+            Sexp::Int(_) | Sexp::Str(_) | Sexp::Sym(_) => {}
+            Sexp::List(items) => let_go(items),
+        }
+    }
+}
+
 impl Sexp {
+    /// The symbol with this token.
+    pub fn symbol(alloc: Global, token: &str) -> Result<Sexp, NoMemory>
+        ensures { IfOk result (λ made. made ≡ form.Sym token.now) }
+    {
+        Ok(Sexp::Sym(Text::of(alloc, token)?))
+    }
+
+    /// A string.
+    pub fn string(alloc: Global, text: &str) -> Result<Sexp, NoMemory>
+        ensures { IfOk result (λ made. made ≡ form.Str text.now) }
+    {
+        Ok(Sexp::Str(Text::of(alloc, text)?))
+    }
+
+    /// The list of these items.
+    pub fn list<const N: usize>(alloc: Global, items: [Sexp; N]) -> Result<Sexp, NoMemory>
+        ensures { IfOk result (λ made. made ≡ form.List items.entry) }
+    {
+        Ok(Sexp::List(Rows::from_vec(Vec::from_array(alloc, items)?)))
+    }
+
+    /// NIL, the empty list, which takes no memory.
+    pub fn nil(alloc: Global) -> Sexp
+        ensures { result ≡ form.List [] }
+    {
+        Sexp::List(Rows::new(alloc))
+    }
+
+    /// The items of a list, NIL among them; None for what is no list.
+    pub fn as_list(&self) -> Option<&[Sexp]>
+        ensures { option_copied result ≡ form_items self.now }
+    {
+        match self {
+            Sexp::List(items) => Some(items.as_slice()),
+            _ => None,
+        }
+    }
+
+    /// The text of a string, None for what is none.
+    pub fn as_text(&self) -> Option<&Text>
+        ensures { option_copied result ≡ form_text self.now }
+    {
+        match self {
+            Sexp::Str(text) => Some(text),
+            _ => None,
+        }
+    }
+
+    /// The token of a symbol, None for what is none.
+    pub fn as_symbol(&self) -> Option<&Text>
+        ensures { option_copied result ≡ form_token self.now }
+    {
+        match self {
+            Sexp::Sym(token) => Some(token),
+            _ => None,
+        }
+    }
+
     /// How large the form is: 1 for an integer, 1 and the octets of a string or a token, 1 and the items of a list. At most
     /// 2^64 - 1.
     pub fn weight(&self) -> u64

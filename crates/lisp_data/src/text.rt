@@ -7,7 +7,6 @@ use std::alloc::Global;
 use std::marker::Model;
 
 /// Text in UTF-8, which contracts see as its octets.
-#[derive(Debug, Drop)]
 pub struct Text {
     text: String,
 }
@@ -18,6 +17,12 @@ impl Model for Text {
     ghost Value = { List ℕ };
 
     ghost view = { λ t. string_bytes t.text };
+}
+
+impl Drop for Text {
+    fn drop(self) {
+        let Text { text: _ } = self;
+    }
 }
 
 impl Text {

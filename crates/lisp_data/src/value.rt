@@ -1,13 +1,17 @@
 ghost use Rattle.std.specs.Prelude.{◌≡◌, ◌↔◌, IsTrue, IfOk};
+ghost use Rattle.std.specs.Option.{option_copied};
+ghost use Rattle.lisp_data.specs.Parts.{is_nil_value, nil, truth, value_items, value_symbol, value_text};
+ghost use Rattle.lisp_data.specs.Same.{same_condition, same_value};
 ghost use Rattle.lisp_data.specs.Sexp.{capped};
+ghost use Rattle.lisp_data.specs.Symbols.{value_of_symbol};
 ghost use Rattle.lisp_data.specs.Value.{weight_of, condition_weight_of, depth_of, condition_depth_of};
+ghost use Rattle.lisp_data.specs.declared.value.Value.TheVariants as value;
 
 use crate::{Boxed, NoMemory, Rows, Symbol, Text, TypeId};
 use std::alloc::Global;
 
 /// A condition: its type, the text that reports it, and its datum, which is NIL for all but type and cell errors.
 #[cycle(value)]
-#[derive(Debug, Drop)]
 pub struct Condition {
     pub kind: TypeId,
     pub message: Text,
@@ -16,13 +20,46 @@ pub struct Condition {
 
 /// A value of the subset. NIL is the empty list, and lists have no dotted pairs.
 #[cycle(value)]
-#[derive(Debug, Drop)]
 pub enum Value {
     Int(i64),
     Str(Text),
     Sym(Symbol),
     List(Rows<Value>),
     Cond(Boxed<Condition>),
+}
+
+/// Lets go of each of these values. The row is then empty, and is let go without the `Drop` of its items.
+#[cycle(value_discard)]
+fn let_go(values: Rows<Value>) {
+    let mut values = values;
+    while let Some(value) = values.pop() {
+        let _gone = value;
+    }
+    values.spent();
+}
+
+impl Drop for Condition {
+    #[cycle(value_discard)]
+    fn drop(self) {
+        let Condition {
+            kind: _,
+            message: _,
+            datum: _,
+        } = self;
+    }
+}
+
+impl Drop for Value {
+    #[cycle(value_discard)]
+    fn drop(self) {
+        match self {
+            Value::Int(_) | Value::Str(_) | Value::Sym(_) => {}
+            Value::List(items) => let_go(items),
+            Value::Cond(condition) => {
+                let _gone = condition.into_inner();
+            }
+        }
+    }
 }
 
 impl Condition {
@@ -46,10 +83,11 @@ impl Condition {
 
     #[cycle(value_same)]
     pub fn same(&self, other: &Condition) -> bool
-        ensures { IsTrue result ↔ (self.now ≡ other.now) }
+        ensures value { result ≡ same_condition self.now other.now }
+        ensures law { IsTrue result ↔ (self.now ≡ other.now) }
     {
-        self.kind == other.kind
-            && self.message.same(&other.message)
+        self.kind.same(other.kind)
+            && self.message.as_str() == other.message.as_str()
             && self.datum.same(&other.datum)
     }
 
@@ -66,6 +104,87 @@ impl Condition {
 }
 
 impl Value {
+    /// NIL, the empty list, which takes no memory.
+    pub fn nil(alloc: Global) -> Value
+        ensures { result ≡ nil }
+    {
+        Value::List(Rows::new(alloc))
+    }
+
+    /// T or NIL.
+    pub fn truth(alloc: Global, holds: bool) -> Result<Value, NoMemory>
+        ensures { IfOk result (λ made. made ≡ truth holds) }
+    {
+        if holds {
+            Ok(Value::Sym(Symbol::common_lisp(alloc, "T")?))
+        } else {
+            Ok(Value::nil(alloc))
+        }
+    }
+
+    /// A string.
+    pub fn string(alloc: Global, text: &str) -> Result<Value, NoMemory>
+        ensures { IfOk result (λ made. made ≡ value.Str text.now) }
+    {
+        Ok(Value::Str(Text::of(alloc, text)?))
+    }
+
+    /// The list of these items.
+    pub fn list<const N: usize>(alloc: Global, items: [Value; N]) -> Result<Value, NoMemory>
+        ensures { IfOk result (λ made. made ≡ value.List items.entry) }
+    {
+        Ok(Value::List(Rows::from_vec(Vec::from_array(alloc, items)?)))
+    }
+
+    /// The symbol as a value: the empty list at NIL.
+    pub fn symbol(alloc: Global, symbol: &Symbol) -> Result<Value, NoMemory>
+        ensures { IfOk result (λ made. made ≡ value_of_symbol symbol.now) }
+    {
+        if symbol.is_nil() {
+            return Ok(Value::nil(alloc));
+        }
+        Ok(Value::Sym(symbol.copy(alloc)?))
+    }
+
+    pub fn is_nil(&self) -> bool
+        ensures { result ≡ is_nil_value self.now }
+    {
+        match self {
+            Value::List(items) => items.is_empty(),
+            _ => false,
+        }
+    }
+
+    /// The items of a list, NIL among them; None for what is no list.
+    pub fn as_list(&self) -> Option<&[Value]>
+        ensures { option_copied result ≡ value_items self.now }
+    {
+        match self {
+            Value::List(items) => Some(items.as_slice()),
+            _ => None,
+        }
+    }
+
+    /// The text of a string, None for what is none.
+    pub fn as_text(&self) -> Option<&Text>
+        ensures { option_copied result ≡ value_text self.now }
+    {
+        match self {
+            Value::Str(text) => Some(text),
+            _ => None,
+        }
+    }
+
+    /// The symbol that the value is. NIL is a list here, and gives None.
+    pub fn as_symbol(&self) -> Option<&Symbol>
+        ensures { option_copied result ≡ value_symbol self.now }
+    {
+        match self {
+            Value::Sym(symbol) => Some(symbol),
+            _ => None,
+        }
+    }
+
     /// How large the value is: 1 for an integer, 1 and the octets of a string or of a symbol's name, 1 and the items of a
     /// list, and a condition's own weight. At most 2^64 - 1.
     #[cycle(value_weight)]
@@ -107,11 +226,12 @@ impl Value {
 
     #[cycle(value_same)]
     pub fn same(&self, other: &Value) -> bool
-        ensures { IsTrue result ↔ (self.now ≡ other.now) }
+        ensures value { result ≡ same_value self.now other.now }
+        ensures law { IsTrue result ↔ (self.now ≡ other.now) }
     {
         match (self, other) {
             (Value::Int(a), Value::Int(b)) => a == b,
-            (Value::Str(a), Value::Str(b)) => a.same(b),
+            (Value::Str(a), Value::Str(b)) => a.as_str() == b.as_str(),
             (Value::Sym(a), Value::Sym(b)) => a.same(b),
             (Value::List(a), Value::List(b)) => {
                 let (a, b) = (a.as_slice(), b.as_slice());

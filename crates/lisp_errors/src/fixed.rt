@@ -3,7 +3,7 @@ ghost use Rattle.lisp_errors.specs.Causes.{name_conflict, division_by_zero, inte
 ghost use Rattle.lisp_errors.specs.Texts.{without_datum};
 
 use itoa::Buffer;
-use lisp_data::{Condition, NoMemory, Rows, Text, TypeId, Value};
+use lisp_data::{Condition, NoMemory, Text, TypeId, Value};
 use std::alloc::Global;
 
 /// A condition with this message and no datum.
@@ -13,7 +13,7 @@ pub fn fixed(alloc: Global, kind: TypeId, message: &str) -> Result<Condition, No
     Ok(Condition {
         kind,
         message: Text::of(alloc, message)?,
-        datum: Value::List(Rows::new(alloc)),
+        datum: Value::nil(alloc),
     })
 }
 

@@ -4,7 +4,7 @@ ghost use Rattle.lisp_errors.specs.Limits.{limited};
 ghost use Rattle.lisp_errors.specs.Texts.{without_datum};
 
 use crate::limits::limited;
-use lisp_data::{Condition, NoMemory, Rows, Text, TypeId, Value};
+use lisp_data::{Condition, NoMemory, Text, TypeId, Value};
 use std::alloc::Global;
 
 /// The condition whose message is these three texts in a row.
@@ -20,7 +20,7 @@ fn joined(
     let mut message = Text::of(alloc, before)?;
     message.push_str(name)?;
     message.push_str(after)?;
-    let datum = Value::List(Rows::new(alloc));
+    let datum = Value::nil(alloc);
     Ok(limited(
         alloc,
         Condition {

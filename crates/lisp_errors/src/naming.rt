@@ -5,7 +5,7 @@ ghost use Rattle.lisp_errors.specs.Texts.{with_datum, without_datum};
 
 use crate::limits::{MAX_WEIGHT, limited, value_too_large};
 use crate::wanted::{Wanted, wanted_name};
-use lisp_data::{Condition, NoMemory, Rows, Text, TypeId, Value};
+use lisp_data::{Condition, NoMemory, Text, TypeId, Value};
 use sexp_printer::{print_user, user_length};
 use std::alloc::Global;
 
@@ -71,7 +71,7 @@ fn stating(
     match message_naming(alloc, before, value, after, current)? {
         None => Ok(value_too_large(alloc)?),
         Some(message) => {
-            let datum = Value::List(Rows::new(alloc));
+            let datum = Value::nil(alloc);
             Ok(limited(
                 alloc,
                 Condition {

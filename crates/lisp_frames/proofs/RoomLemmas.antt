@@ -6,7 +6,9 @@ use Rattle.term_model.specs.declared.found.Found.{Found}
 use Rattle.term_model.specs.declared.found.Found.TheVariants.{Already, Here, Inside}
 use Rattle.term_model.specs.declared.frame.Frame.TheVariants as frame
 use Rattle.term_model.specs.declared.plain.Plain.{Plain}
+use Rattle.term_model.specs.declared.plain.Plain.TheVariants as plain
 use Rattle.term_model.specs.GoingIn.{look}
+use Rattle.term_model.specs.Progress.{Progress}
 use Rattle.term_model.specs.Room.{enter, layers, levels, limit, room, wrap}
 use Rattle.term_model.specs.Term.{Context}
 use Rattle.lisp_frames.specs.Resumed.{last_laid}
@@ -22,10 +24,10 @@ room_none c e = let h : limit (levels c) ≤ layers c = leb-true (limit (levels 
 pub room_smaller : (p : Plain) (c : Context) → is_full c ≡ false → room (frame.On p ∷ c) < room c
 room_smaller p c e = let h = room_suc p c e in omega arith
 
-pub enter_inside : (p : Plain) (e : Ast) (c : Context) → is_full c ≡ false → enter (room c) c (Inside p e) ≡ enter (room (frame.On p ∷ c)) (frame.On p ∷ c) (look e)
-enter_inside p e c h = ap (λ n. enter n c (Inside p e)) (room_suc p c h)
+pub enter_inside : (p : Progress) (e : Ast) (c : Context) → is_full c ≡ false → enter (room c) c (Inside p e) ≡ enter (room (frame.On (plain.Form p) ∷ c)) (frame.On (plain.Form p) ∷ c) (look e)
+enter_inside p e c h = ap (λ n. enter n c (Inside p e)) (room_suc (plain.Form p) c h)
 
-pub enter_full : (p : Plain) (e : Ast) (c : Context) → is_full c ≡ true → enter (room c) c (Inside p e) ≡ record { around = c; redex = None }
+pub enter_full : (p : Progress) (e : Ast) (c : Context) → is_full c ≡ true → enter (room c) c (Inside p e) ≡ record { around = c; redex = None }
 enter_full p e c h = ap (λ n. enter n c (Inside p e)) (room_none c h)
 
 pub wrap_inside : (p : Plain) (ps : List Plain) (f : Found) (c : Context) → is_full c ≡ false → wrap (room c) c (p ∷ ps) f ≡ wrap (room (frame.On p ∷ c)) (frame.On p ∷ c) ps f

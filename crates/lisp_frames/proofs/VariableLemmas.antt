@@ -4,7 +4,7 @@ use Rattle.std.specs.Prelude.{if◌then◌else◌, option_map}
 use Rattle.lisp_data.specs.declared.symbol.Symbol.{Symbol}
 use Rattle.lisp_data.specs.declared.value.Value.{Value}
 use Rattle.lisp_data.specs.declared.value.Value as value
-use Rattle.lisp_sequences.specs.Same.{same_symbol}
+use Rattle.lisp_data.specs.Same.{same_symbol}
 use Rattle.term_model.specs.declared.frame.Frame.{Frame}
 use Rattle.term_model.specs.declared.frame.Frame.TheVariants as frame
 use Rattle.term_model.specs.declared.plain.Plain.TheVariants as plain
@@ -48,27 +48,8 @@ frame_if false x v w = refl
 
 says : (s : Symbol) (v : Value) (n : ℕ) (l : Frame) → Says s v n l
 says s v n (frame.On (plain.Lexical x w)) = record { value = value_if (same_symbol x s) x w; frame = frame_if (same_symbol x s) x v w }
-says s v n (frame.On (plain.Progn es)) = record { value = refl; frame = refl }
+says s v n (frame.On (plain.Form p)) = record { value = refl; frame = refl }
 says s v n (frame.On (plain.Before f)) = record { value = refl; frame = refl }
-says s v n (frame.On (plain.If chosen otherwise)) = record { value = refl; frame = refl }
-says s v n (frame.On (plain.When body)) = record { value = refl; frame = refl }
-says s v n (frame.On (plain.Unless body)) = record { value = refl; frame = refl }
-says s v n (frame.On (plain.Cond body cs)) = record { value = refl; frame = refl }
-says s v n (frame.On (plain.And es)) = record { value = refl; frame = refl }
-says s v n (frame.On (plain.Or es)) = record { value = refl; frame = refl }
-says s v n (frame.On (plain.Let vs x bs body)) = record { value = refl; frame = refl }
-says s v n (frame.On (plain.LetStar x bs body)) = record { value = refl; frame = refl }
-says s v n (frame.On (plain.Setq x ps)) = record { value = refl; frame = refl }
-says s v n (frame.On (plain.ReturnFrom name)) = record { value = refl; frame = refl }
-says s v n (frame.On (plain.DoTimes x body)) = record { value = refl; frame = refl }
-says s v n (frame.On (plain.DoList x body)) = record { value = refl; frame = refl }
-says s v n (frame.On (plain.CatchTag body)) = record { value = refl; frame = refl }
-says s v n (frame.On (plain.ThrowTag e)) = record { value = refl; frame = refl }
-says s v n (frame.On (plain.ThrowValue tag)) = record { value = refl; frame = refl }
-says s v n (frame.On (plain.Defparameter x)) = record { value = refl; frame = refl }
-says s v n (frame.On (plain.HandlerBind vs kind hs body)) = record { value = refl; frame = refl }
-says s v n (frame.On (plain.WithSimpleRestart name control vs es body)) = record { value = refl; frame = refl }
-says s v n (frame.On (plain.Arguments f vs es)) = record { value = refl; frame = refl }
 says s v n (frame.On (plain.Map f list next collected)) = record { value = refl; frame = refl }
 says s v n (frame.On (plain.Call f vs)) = record { value = refl; frame = refl }
 says s v n (frame.On plain.Eval) = record { value = refl; frame = refl }
@@ -133,27 +114,8 @@ value_seen l c see.Other m further has within e = e ∙ sym (value_at-past l c m
 
 binds : (s : Symbol) (l : Frame) → seen_in s l ≡ see.Binding → has_value l
 binds s (frame.On (plain.Lexical x w)) e = (w, refl)
-binds s (frame.On (plain.Progn es)) e = absurd (cc)
+binds s (frame.On (plain.Form p)) e = absurd (cc)
 binds s (frame.On (plain.Before f)) e = absurd (cc)
-binds s (frame.On (plain.If chosen otherwise)) e = absurd (cc)
-binds s (frame.On (plain.When body)) e = absurd (cc)
-binds s (frame.On (plain.Unless body)) e = absurd (cc)
-binds s (frame.On (plain.Cond body cs)) e = absurd (cc)
-binds s (frame.On (plain.And es)) e = absurd (cc)
-binds s (frame.On (plain.Or es)) e = absurd (cc)
-binds s (frame.On (plain.Let vs x bs body)) e = absurd (cc)
-binds s (frame.On (plain.LetStar x bs body)) e = absurd (cc)
-binds s (frame.On (plain.Setq x ps)) e = absurd (cc)
-binds s (frame.On (plain.ReturnFrom name)) e = absurd (cc)
-binds s (frame.On (plain.DoTimes x body)) e = absurd (cc)
-binds s (frame.On (plain.DoList x body)) e = absurd (cc)
-binds s (frame.On (plain.CatchTag body)) e = absurd (cc)
-binds s (frame.On (plain.ThrowTag tag)) e = absurd (cc)
-binds s (frame.On (plain.ThrowValue tag)) e = absurd (cc)
-binds s (frame.On (plain.Defparameter x)) e = absurd (cc)
-binds s (frame.On (plain.HandlerBind vs kind hs body)) e = absurd (cc)
-binds s (frame.On (plain.WithSimpleRestart name control vs es body)) e = absurd (cc)
-binds s (frame.On (plain.Arguments f vs es)) e = absurd (cc)
 binds s (frame.On (plain.Map f list next collected)) e = absurd (cc)
 binds s (frame.On (plain.Call f vs)) e = absurd (cc)
 binds s (frame.On plain.Eval) e = absurd (cc)

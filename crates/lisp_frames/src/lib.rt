@@ -11,9 +11,9 @@ mod room;
 mod stack;
 mod variables;
 
-pub use going_in::{body, counting, defparameter, listing, look};
+pub use going_in::{advance, body, cond, look};
 pub use stack::{PushFault, Stack};
 pub use term_model::{
     Action, Ask, Bound, Bring, Cluster, Focus, Found, Frame, HandlerFunction, Offer, Origin,
-    Outcome, Plain, Restart, Saved,
+    Outcome, Partial, Plain, Restart, Saved,
 };

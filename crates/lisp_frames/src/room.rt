@@ -5,7 +5,7 @@ ghost use Rattle.lisp_frames.specs.Stack.{is_full, with_context};
 ghost use Rattle.lisp_frames.specs.Resumed.{entered, last_laid, next_in, resumed_to};
 
 use crate::Stack;
-use going_in::{Next, look, pile_of, resumed};
+use going_in::{Next, look, resumed};
 use lisp_data::{NoMemory, Pile, Rows, Value};
 use std::alloc::Global;
 use term_model::{Focus, Found, Frame, Outcome, Plain};
@@ -19,12 +19,12 @@ impl Stack {
         ensures entered { IfOk result (λ _. self.new ≡ entered (enter (room self.old.context) self.old.context found) self.old) }
     {
         let mut found = found;
-        'inside: while let Found::Inside(layer, form) = found {
+        'inside: while let Found::Inside(partial, form) = found {
             if self.is_full() {
                 return Ok(false);
             }
-            self.push_over(Frame::On(layer))?;
-            found = look(alloc, form)?;
+            self.push_over(Frame::On(Plain::Form(partial)))?;
+            found = look(alloc, &form)?;
         }
         match found {
             Found::Here(redex) => self.set_focus(redex),
@@ -77,7 +77,7 @@ impl Stack {
         ensures fits { IfOk result (λ fits. fits ≡ is_some (wrap (room self.old.context) self.old.context markers found).redex) }
         ensures laid { IfOk result (λ _. self.new ≡ entered (wrap (room self.old.context) self.old.context markers found) self.old) }
     {
-        let mut markers = pile_of(alloc, markers)?;
+        let mut markers = Pile::of(markers);
         self.lay_markers(&mut markers)?;
         match markers.pop() {
             None => Ok(self.enter(alloc, found)?),

@@ -37,7 +37,6 @@ impl From<NoMemory> for PushFault {
 
 /// The frames of a thread with its redex and the serial of its next protected form. Contracts see the record of the three, with the
 /// frames as a context, the innermost first.
-#[derive(Drop)]
 pub struct Stack {
     layers: Vec<Frame>,
     /// How many of them are levels of the debugger.
@@ -62,6 +61,17 @@ impl Model for Stack {
     ghost view = { λ s. record { context = reverse s.layers.items; redex = s.redex; serial = s.serial } };
 
     ghost invariant = { λ s. s.opened ≡ levels (reverse s.layers.items) };
+}
+
+impl Drop for Stack {
+    fn drop(self) {
+        let Stack {
+            layers: _,
+            opened: _,
+            redex: _,
+            serial: _,
+        } = self;
+    }
 }
 
 /// How many levels of the debugger the frame is: one or none.

@@ -1,7 +1,6 @@
 ghost use Rattle.std.specs.Prelude.{slice_get, ◌≡◌, ◌<◌, ◌≤◌, length, reverse, IfSome};
 ghost use Rattle.std.specs.Option.{option_copied};
 ghost use Rattle.term_model.specs.Variables.{lexical};
-ghost use Rattle.lisp_sequences.specs.Same.{same_symbol};
 ghost use Rattle.lisp_frames.specs.Places.{binding, local_value, seen_in, seen_in_plain, value_in_plain};
 
 use lisp_data::{Symbol, Value};
@@ -15,18 +14,12 @@ pub(crate) enum Seen {
     Other,
 }
 
-fn is_same(a: &Symbol, b: &Symbol) -> bool
-    ensures { result ≡ same_symbol a.now b.now }
-{
-    a.home.as_str() == b.home.as_str() && a.name.as_str() == b.name.as_str()
-}
-
 fn seen_in_plain(layer: &Plain, s: &Symbol) -> Seen
     ensures { result ≡ seen_in_plain s.now layer.now }
 {
     match layer {
         Plain::Lexical { variable, .. } => {
-            if is_same(variable.symbol(), s) {
+            if variable.symbol().same(s) {
                 return Seen::Binding;
             }
             Seen::Other

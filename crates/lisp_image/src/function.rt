@@ -1,8 +1,8 @@
-use lisp_data::{Rows, Symbol, Text};
-use syntax_trees::Ast;
+use lisp_data::{Rows, Text};
+use syntax_trees::{Forms, Name};
 
 /// Where a function's text stands: the buffer, the position of the text in it, and the place of the form in the text, in characters.
-#[derive(Debug, Drop)]
+#[derive(Drop)]
 pub struct Place {
     pub buffer: Text,
     pub position: i64,
@@ -10,11 +10,22 @@ pub struct Place {
 }
 
 /// A user function: its parameters, its body, and where its text stands, if that is known.
-#[derive(Drop)]
 pub struct Function {
-    pub required: Rows<Symbol>,
-    pub optional: Rows<Symbol>,
-    pub rest: Option<Symbol>,
-    pub body: Rows<Ast>,
+    pub required: Rows<Name>,
+    pub optional: Rows<Name>,
+    pub rest: Option<Name>,
+    pub body: Forms,
     pub source: Option<Place>,
+}
+
+impl Drop for Function {
+    fn drop(self) {
+        let Function {
+            required: _,
+            optional: _,
+            rest: _,
+            body: _,
+            source: _,
+        } = self;
+    }
 }

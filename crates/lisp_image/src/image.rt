@@ -12,7 +12,6 @@ use std::marker::Model;
 
 /// The image of a session: the packages, the global values, the special variables and the user functions. Contracts see the record
 /// of these four.
-#[derive(Drop)]
 pub struct Image {
     packages: Packages,
     globals: SymbolMap<Value>,
@@ -31,6 +30,17 @@ impl Model for Image {
     ghost coded = { Prim.hlevel (codes, ast.the_row.coded, value.the_row.coded) };
 
     ghost view = { λ i. record { packages = i.packages; globals = i.globals; specials = i.specials; functions = i.functions } };
+}
+
+impl Drop for Image {
+    fn drop(self) {
+        let Image {
+            packages: _,
+            globals: _,
+            specials: _,
+            functions: _,
+        } = self;
+    }
 }
 
 /// `*PACKAGE*`, the variable that holds the name of the current package.

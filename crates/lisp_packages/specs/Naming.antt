@@ -3,6 +3,7 @@ use Rattle.std.specs.Prelude.{◌≡◌, ℕ, ◌==◌, Bool, List, [], ◌∷�
 use Rattle.std.specs.List.{list_any, before_first, after_first}
 use Rattle.std.specs.Option.{option_map_or}
 use Rattle.std.specs.Str.{bytes_eq}
+use Rattle.lisp_data.specs.Symbols.{value_of_symbol}
 use Rattle.lisp_data.specs.declared.symbol.Symbol.{Symbol}
 use Rattle.lisp_data.specs.declared.sexp.Sexp.{Sexp}
 use Rattle.lisp_data.specs.declared.sexp.Sexp.TheOpen.{Sexp-F}
@@ -78,17 +79,13 @@ named ps current token = if list_any is_colon token
     then prefixed ps (before_first is_colon token) (after_first is_colon token)
     else interned ps current token
 
--- the symbol as a value: NIL of COMMON-LISP is the empty list
-abbrev pub as_value : Symbol → Value
-as_value symbol = if bytes_eq symbol.home common_lisp then (if bytes_eq symbol.name (codes "NIL") then value.List [] else value.Sym symbol) else value.Sym symbol
-
 -- the answer for a form: the packages afterwards, and the value
 abbrev pub Valued : Type 0
 Valued = Result (List Package × Value) NameFault
 
 -- the value of a token's symbol
 abbrev pub symbol_valued : Named → Valued
-symbol_valued (Ok (ps, symbol)) = Ok (ps, as_value symbol)
+symbol_valued (Ok (ps, symbol)) = Ok (ps, value_of_symbol symbol)
 symbol_valued (Err why) = Err why
 
 -- the answer for several forms: the packages afterwards, and the values

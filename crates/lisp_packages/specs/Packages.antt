@@ -6,6 +6,7 @@ use Rattle.std.specs.List.{list_any, position_from}
 use Rattle.std.specs.Option.{option_map_or, option_or}
 use Rattle.std.specs.Bool.{nat_eq}
 use Rattle.std.specs.Str.{bytes_eq}
+pub use Rattle.lisp_data.specs.Same.{same_symbol}
 use Rattle.lisp_data.specs.declared.symbol.Symbol.{Symbol}
 use Rattle.lisp_packages.specs.declared.entry.Entry.{Entry}
 use Rattle.lisp_packages.specs.declared.lisp_package.Package.{Package}
@@ -48,10 +49,6 @@ inherited ps (used ∷ more) name = option_or (external_at ps used name) (inheri
 -- the symbol of a name that is accessible in the package at a place: its own, else one that it inherits (HyperSpec 11.1.1.2.3)
 abbrev pub accessible : List Package → ℕ → List ℕ → Option Symbol
 accessible ps i name = option_or (option_map (λ entry. entry.symbol) (entry_of (own_at ps i) name)) (inherited ps (uses_at ps i) name)
-
--- whether two symbols are the same
-abbrev pub same_symbol : Symbol → Symbol → Bool
-same_symbol s t = bytes_eq s.home t.home && bytes_eq s.name t.name
 
 -- whether the package at a place has an accessible symbol of this one's name that is another one (HyperSpec 11.1.1.2.5)
 abbrev pub clashes : List Package → ℕ → Symbol → Bool

@@ -4,7 +4,7 @@ use lisp_data::{NoMemory, Symbol};
 use std::alloc::Global;
 
 /// A symbol that is present in a package, and whether the package exports it.
-#[derive(Debug, Drop)]
+#[derive(Drop)]
 pub struct Entry {
     pub symbol: Symbol,
     pub external: bool,

@@ -1,7 +1,7 @@
 use lisp_data::{NoMemory, Text};
 
 /// Why a name has no symbol, or why a package can't be changed.
-#[derive(Debug, Drop)]
+#[derive(Drop)]
 pub enum NameFault {
     /// No package has this name or nickname.
     NoPackage(Text),

@@ -12,10 +12,7 @@ fn standard_entry(alloc: Global, name: &str) -> Result<Entry, NoMemory>
     ensures { IfOk result (λ entry. entry ≡ standard_entry name.now) }
 {
     Ok(Entry {
-        symbol: Symbol {
-            home: Text::of(alloc, COMMON_LISP)?,
-            name: Text::of(alloc, name)?,
-        },
+        symbol: Symbol::common_lisp(alloc, name)?,
         external: true,
     })
 }

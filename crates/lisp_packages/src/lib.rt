@@ -23,6 +23,5 @@ mod read;
 pub use entry::Entry;
 pub use fault::NameFault;
 pub use lisp_package::Package;
-pub use naming::symbol_value;
 pub use own::Own;
 pub use packages::Packages;

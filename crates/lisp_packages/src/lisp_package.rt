@@ -9,7 +9,7 @@ use lisp_data::{Rows, Text};
 
 /// A package: its full name, its nicknames, the places of the packages that it uses, in order of use, and the symbols present
 /// in it, in order of interning. A package's place is its number in order of making, from 0.
-#[derive(Debug, Drop)]
+#[derive(Drop)]
 pub struct Package {
     pub name: Text,
     pub nicknames: Rows<Text>,

@@ -8,14 +8,14 @@ use std::alloc::Global;
 use std::marker::Model;
 
 /// The place of a package, and the name of a symbol that is new there.
-#[derive(Debug, Drop, PartialEq, Eq, Hash)]
+#[derive(Drop, PartialEq, Eq, Hash)]
 pub struct Fresh {
     pub place: usize,
     pub name: String,
 }
 
 /// The symbols that a form makes, in order of making, each once. Contracts see the list of places and names.
-#[derive(Debug, Drop)]
+#[derive(Drop)]
 pub struct Made {
     set: IndexSet<Fresh>,
 }

@@ -1,10 +1,11 @@
 ghost use Rattle.std.specs.Prelude.{◌≡◌, ◌<◌, ◌++◌, [], ◌∷◌, Option, None, Some, Ok, true, false, length, slice_get, option_map, IfOk, IfErr, OnOk, OnErr};
 ghost use Rattle.std.specs.Str.{bytes_eq};
+ghost use Rattle.lisp_data.specs.Symbols.{value_of_symbol};
 ghost use Rattle.lisp_packages.specs.Causes.{IsCause, IsFault};
 ghost use Rattle.lisp_packages.specs.declared.fault.NameFault.TheVariants.{NoPackage};
 ghost use Rattle.lisp_packages.specs.Entries.{entry_of};
 ghost use Rattle.lisp_packages.specs.Made.{has_made, with_made, with_made_at, undone};
-ghost use Rattle.lisp_packages.specs.Naming.{Gives, common_lisp, keyword, new_entry, made_symbol, interned, keyword_named, external_named, in_named, qualified, prefixed, named, as_value, valued};
+ghost use Rattle.lisp_packages.specs.Naming.{Gives, common_lisp, keyword, new_entry, made_symbol, interned, keyword_named, external_named, in_named, qualified, prefixed, named, valued};
 ghost use Rattle.lisp_packages.specs.Packages.{place_of, name_at, uses_at, own_at, external_at, inherited, accessible};
 
 use crate::made::Made;
@@ -29,12 +30,12 @@ pub(crate) fn new_entry(alloc: Global, home: &Text, name: &str) -> Result<Entry,
     })
 }
 
-/// The symbol as a value: NIL of COMMON-LISP is the empty list.
-pub fn symbol_value(alloc: Global, symbol: Symbol) -> Value
-    ensures { result ≡ as_value symbol }
+/// The symbol as a value, which takes no memory: NIL of COMMON-LISP is the empty list.
+fn symbol_value(alloc: Global, symbol: Symbol) -> Value
+    ensures { result ≡ value_of_symbol symbol }
 {
-    if symbol.home.as_str() == COMMON_LISP && symbol.name.as_str() == "NIL" {
-        return Value::List(Rows::new(alloc));
+    if symbol.is_nil() {
+        return Value::nil(alloc);
     }
     Value::Sym(symbol)
 }

@@ -9,7 +9,7 @@ use std::alloc::Global;
 use std::marker::Model;
 
 /// The symbols present in a package, in order of interning, at most one of each name. Contracts see the list of their entries.
-#[derive(Debug, Drop)]
+#[derive(Drop)]
 pub struct Own {
     map: IndexMap<String, Entry>,
 }

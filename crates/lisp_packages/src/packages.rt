@@ -13,7 +13,7 @@ use std::alloc::Global;
 use std::marker::Model;
 
 /// The packages of a Lisp image, in order of making. Contracts see the list of them.
-#[derive(Debug, Drop)]
+#[derive(Drop)]
 pub struct Packages {
     list: Vec<Package>,
     /// The places of their names and nicknames.

@@ -7,7 +7,7 @@ use Rattle.lisp_data.specs.declared.value.Value.TheOpen.{Value-F}
 use Rattle.lisp_data.specs.declared.value.Value.TheVariants as value
 use Rattle.lisp_data.specs.declared.value.Value.TheViews.{out-Value}
 use Rattle.lisp_data.specs.declared.value.Condition.{Condition}
-use Rattle.lisp_sequences.specs.Same.{same_value}
+use Rattle.lisp_data.specs.Same.{same_value}
 
 -- the first item, NIL where there is none (function CAR)
 abbrev pub car : List Value → Value

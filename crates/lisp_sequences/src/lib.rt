@@ -6,12 +6,10 @@
 #![tactic(auto)]
 
 mod lists;
-mod same;
 mod search;
 mod strings;
 
 pub use lists::{append, copy_items, last, nth, nthcdr, reverse, subseq};
-pub use same::{same_condition, same_value};
 pub use search::{assoc, member};
 pub use strings::{string_downcase, string_equal, string_length, string_upcase, substring};
 

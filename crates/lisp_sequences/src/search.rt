@@ -2,8 +2,7 @@ ghost use Rattle.std.specs.Prelude.{◌≡◌, IfOk};
 ghost use Rattle.lisp_data.specs.declared.value.Value.TheViews.{out-Value};
 ghost use Rattle.lisp_sequences.specs.Lists.{member, is_pair_of, assoc};
 
-use crate::same::same_value;
-use lisp_data::{NoMemory, Rows, Value};
+use lisp_data::{NoMemory, Value};
 use std::alloc::Global;
 
 /// The rest of the items from the first that is the same, none where there is none.
@@ -12,7 +11,7 @@ pub fn member<'a>(item: &Value, items: &'a [Value]) -> &'a [Value]
 {
     let mut left = items;
     while let [first, more @ ..] = left {
-        if same_value(first, item) {
+        if first.same(item) {
             return left;
         }
         left = more;
@@ -25,7 +24,7 @@ fn is_pair_of(key: &Value, value: &Value) -> bool
 {
     match value {
         Value::List(items) => match items.as_slice() {
-            [first, ..] => same_value(first, key),
+            [first, ..] => first.same(key),
             [] => false,
         },
         _ => false,
@@ -43,5 +42,5 @@ pub fn assoc(alloc: Global, key: &Value, items: &[Value]) -> Result<Value, NoMem
         }
         left = more;
     }
-    Ok(Value::List(Rows::new(alloc)))
+    Ok(Value::nil(alloc))
 }

@@ -1,6 +1,6 @@
 use crate::{
-    append, assoc, copy_items, last, member, nth, nthcdr, reverse, same_value, string_downcase,
-    string_length, string_upcase, substring,
+    append, assoc, copy_items, last, member, nth, nthcdr, reverse, string_downcase, string_length,
+    string_upcase, substring,
 };
 use lisp_data::{NoMemory, Rows, Text, Value};
 use std::alloc::Global;
@@ -17,7 +17,7 @@ fn integers(alloc: Global, numbers: &[i64]) -> Result<Value, NoMemory> {
 /// Whether these items are these integers.
 fn are(alloc: Global, items: &[Value], numbers: &[i64]) -> Result<bool, NoMemory> {
     let list = Value::List(copy_items(alloc, items)?);
-    Ok(same_value(&list, &integers(alloc, numbers)?))
+    Ok(list.same(&integers(alloc, numbers)?))
 }
 
 /// `((1 2) 3 NIL (4))`, and its items in one list.

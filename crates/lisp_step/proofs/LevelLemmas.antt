@@ -7,6 +7,7 @@ use Rattle.term_model.specs.declared.found.Found.{Found}
 use Rattle.term_model.specs.declared.found.Found.TheVariants.{Already, Here, Inside}
 use Rattle.term_model.specs.declared.frame.Frame.TheVariants as frame
 use Rattle.term_model.specs.declared.plain.Plain.{Plain}
+use Rattle.term_model.specs.declared.plain.Plain.TheVariants as plain
 use Rattle.term_model.specs.GoingIn.{look}
 use Rattle.term_model.specs.Room.{enter, levels, wrap}
 use Rattle.term_model.specs.Term.{Context}
@@ -15,7 +16,7 @@ pub enter-levels : (space : ℕ) (c : Context) (found : Found) → levels (enter
 enter-levels space c (Already v) = refl
 enter-levels space c (Here f) = refl
 enter-levels zero c (Inside p e) = refl
-enter-levels (suc space) c (Inside p e) = enter-levels space (frame.On p ∷ c) (look e)
+enter-levels (suc space) c (Inside p e) = enter-levels space (frame.On (plain.Form p) ∷ c) (look e)
 
 pub wrap-levels : (space : ℕ) (c : Context) (ps : List Plain) (found : Found) → levels (wrap space c ps found).around ≡ levels c
 wrap-levels space c [] found = enter-levels space c found

@@ -32,9 +32,9 @@ use Rattle.step_model.specs.Step.{act_if, announced, raises, step}
 use Rattle.swank_rpc.specs.Calls.{is_served}
 use Rattle.swank_rpc.specs.Commands.{Given, Evaluates, Refuses, Replies, RepliesIn, command_of}
 use Rattle.swank_rpc.specs.Finishes.{Ended, finish_of, message_of}
-use Rattle.syntax_rows.specs.Parsing.{parsed}
+use Rattle.lisp_syntax.specs.Parsing.{parsed}
 use Rattle.syntax_trees.specs.declared.ast.Ast.{Ast}
-use Rattle.syntax_trees.specs.declared.ast.Ast.TheViews.{out-Ast}
+use Rattle.syntax_trees.specs.Places.{row_of}
 use Rattle.term_model.specs.declared.focus.Focus.{Focus}
 use Rattle.term_model.specs.declared.focus.Focus.TheVariants as focus
 use Rattle.term_model.specs.declared.focus.Origin.{Origin}
@@ -44,7 +44,7 @@ use Rattle.term_model.specs.declared.kept.Outcome.{Outcome}
 use Rattle.term_model.specs.declared.kept.Outcome.TheVariants as outcome
 use Rattle.term_model.specs.declared.plain.Plain.{Plain}
 use Rattle.term_model.specs.declared.plain.Plain.TheVariants as plain
-use Rattle.term_model.specs.GoingIn.{nil}
+use Rattle.lisp_data.specs.Parts.{nil}
 use Rattle.term_model.specs.Label.{messages_in}
 use Rattle.term_model.specs.Restarts.{Leaving, abort_exit}
 use Rattle.term_model.specs.Room.{levels}
@@ -137,11 +137,11 @@ module _ (t : ℕ) (mailbox : Mailbox) (image : ImageState) (b : Beside) where
   acts n a = after (announced (perform n (act_if (true && not (raises a)) n a)))
 
   parses : (s : StackState) (f : Focus) (p : Placed) (ps : List Placed) (origin : Option Origin) (packages : List Package) (tree : Result Ast Value) → are_simple s.context ≡ true
-      → acts (reads s f) (Changes (with_packages image packages) (with_tree (reads s f) tree (λ e. Goes (before_forms ps origin) (placed_found e (out-Ast e) origin p.at))))
+      → acts (reads s f) (Changes (with_packages image packages) (with_tree (reads s f) tree (λ e. Goes (before_forms ps origin) (placed_found e (row_of e) origin p.at))))
       ≡ left_with (formed s p.at ps origin (tree_of (tree_with packages tree))) mailbox (image_with image (tree_with packages tree))
   parses s f p ps origin packages (Ok a) e =
       let n = record (reads s f) { image = with_packages image packages } in
-      let found = placed_found a (out-Ast a) origin p.at in
+      let found = placed_found a (row_of a) origin p.at in
       goes-on (act.goes n (before_forms ps origin) found) n (gone (with_redex f s) (before_forms ps origin) found) (gone s (before_forms ps origin) found)
       (goes-gone n (before_forms ps origin) found e) (gone-any s f (before_forms ps origin) found) (gone-levels s (before_forms ps origin) found ∙ no_levels s.context e)
   parses s f p ps origin packages (Err bad) e = left s f e

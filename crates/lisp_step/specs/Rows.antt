@@ -29,11 +29,11 @@ use Rattle.swank_rpc.specs.Finishes.{Ended, ended, written}
 use Rattle.swank_rpc.specs.Finishes as end
 use Rattle.swank_rpc.specs.declared.answer.Answer.{Answer}
 use Rattle.swank_rpc.specs.declared.answer.Answer.TheVariants as answer
-use Rattle.syntax_rows.specs.Parsing.{parsed}
-use Rattle.syntax_trees.specs.Symbols.{cl}
+use Rattle.lisp_syntax.specs.Parsing.{parsed}
 use Rattle.syntax_trees.specs.declared.ast.Ast.{Ast}
-use Rattle.syntax_trees.specs.declared.ast.Ast.TheOpen.{Ast-F}
-use Rattle.syntax_trees.specs.declared.ast.Ast.TheViews.{out-Ast}
+use Rattle.syntax_trees.specs.declared.row.Row.{Row}
+use Rattle.syntax_trees.specs.declared.row.Row.TheVariants as row
+use Rattle.syntax_trees.specs.Places.{row_of}
 use Rattle.term_model.specs.declared.focus.Focus.{Focus}
 use Rattle.term_model.specs.declared.focus.Focus.TheVariants as focus
 use Rattle.term_model.specs.declared.focus.Origin.{Origin}
@@ -45,7 +45,7 @@ use Rattle.term_model.specs.declared.kept.Outcome.{Outcome}
 use Rattle.term_model.specs.declared.kept.Outcome.TheVariants as outcome
 use Rattle.term_model.specs.declared.plain.Plain.{Plain}
 use Rattle.term_model.specs.declared.plain.Plain.TheVariants as plain
-use Rattle.term_model.specs.GoingIn.{nil}
+use Rattle.lisp_data.specs.Parts.{nil}
 use Rattle.term_model.specs.Levels.{served_form}
 use Rattle.term_model.specs.Room.{is_within, room, wrap}
 use Rattle.term_model.specs.Term.{Context}
@@ -108,10 +108,6 @@ gone s ps found = laid s ps found
 
 -- ---- waiting
 
-abbrev pub truth : Bool → Value
-truth true = value.Sym (cl (codes "T"))
-truth false = nil
-
 abbrev pub received : StackState → ImageState → ℕ → FromEmacs → StackState
 received s image i (mail.Rex form «package» thread id) =
     laid (within (frame.Rex i id form) s) (package_bound (binds_package form) (bound_package image «package»)) (Here focus.Rpc)
@@ -159,13 +155,13 @@ packages_with packages (Some found) = found.0
 abbrev pub image_with : ImageState → Option (List Package × Ast) → ImageState
 image_with image found = with_packages image (packages_with image.packages found)
 
-abbrev pub is_definition : Ast-F Ast → Bool
-is_definition (Ast-F.Defun name parameters body) = true
+abbrev pub is_definition : Row → Bool
+is_definition (row.Defun name parameters) = true
 is_definition _ = false
 
 -- with the tree of a form that stands at this place, and the forms behind it
 abbrev pub formed : StackState → ℕ → List Placed → Option Origin → Option Ast → Done
-formed s at ps origin (Some e) = stays (gone s (before_forms ps origin) (placed_found e (out-Ast e) origin at))
+formed s at ps origin (Some e) = stays (gone s (before_forms ps origin) (placed_found e (row_of e) origin at))
 formed s at ps origin None = leaves s
 
 abbrev pub first_resolved : ImageState → Context → Placed → Option (List Package × Ast)

@@ -143,7 +143,7 @@ pub(crate) fn package_markers(
     if !binds_package(alloc, form)? {
         return Ok(markers);
     }
-    let variable = Name::of(package_variable(alloc)?);
+    let variable = Name::new(alloc, package_variable(alloc)?)?;
     markers.push(Plain::Dynamic { variable, value })?;
     Ok(markers)
 }

@@ -20,10 +20,7 @@ pub(crate) const USER_PACKAGE: &str = "COMMON-LISP-USER";
 pub(crate) fn package_variable(alloc: Global) -> Result<Symbol, NoMemory>
     ensures { IfOk result (λ symbol. symbol ≡ package_variable) }
 {
-    Ok(Symbol {
-        home: Text::of(alloc, "COMMON-LISP")?,
-        name: Text::of(alloc, "*PACKAGE*")?,
-    })
+    Symbol::common_lisp(alloc, "*PACKAGE*")
 }
 
 /// The full name of the package that a text names, and COMMON-LISP-USER where it names none.

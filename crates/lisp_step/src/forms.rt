@@ -1,22 +1,22 @@
 ghost use Rattle.std.specs.Prelude.{◌≡◌, ◌++◌, Some, IfOk, OnOk, is_some, true};
 ghost use Rattle.lisp_packages.specs.Naming.{in_named, valued};
 ghost use Rattle.step_model.specs.Requests.{before_forms, placed_found};
-ghost use Rattle.syntax_rows.specs.Parsing.{parsed};
-ghost use Rattle.syntax_trees.specs.declared.ast.Ast.TheViews.{out-Ast};
+ghost use Rattle.lisp_syntax.specs.Parsing.{parsed};
+ghost use Rattle.syntax_trees.specs.Places.{row_of};
 ghost use Rattle.lisp_step.specs.Rows.{formed, gone, image_run, image_with, is_definition, packages_in, packages_with, resolved, runs, tree_of, tree_or_none, value_in};
 
 use crate::current_package::current_package;
 use crate::going::{give_value, go};
 use crate::leaving::leave;
-use form_parser::{ParseFault, parse_form};
 use lisp_data::{NoMemory, Pile, Rows, Sexp, Text, Value};
 use lisp_frames::{Stack, look};
 use lisp_image::Image;
 use lisp_packages::{NameFault, Packages};
+use lisp_syntax::{ParseFault, parse_form};
 use rpc_messages::ToEmacs;
 use sexp_reader::Placed;
 use std::alloc::Global;
-use syntax_trees::Ast;
+use syntax_trees::{Code, Row};
 use term_model::{Focus, Found, Origin, Plain};
 
 /// The value of a form where this package is current; None where it is refused. No symbol is made.
@@ -32,12 +32,12 @@ fn value_of(packages: &Packages, package: &Text, form: &Sexp) -> Result<Option<V
     }
 }
 
-/// The tree of a form; None where it has none.
-fn tree_of(alloc: Global, form: &Value) -> Result<Option<Ast>, NoMemory>
+/// The tree of a form, to be shared; None where it has none.
+fn tree_of(alloc: Global, form: &Value) -> Result<Option<Code>, NoMemory>
     ensures { IfOk result (λ tree. tree ≡ tree_or_none (parsed form.now)) }
 {
     match parse_form(alloc, form) {
-        Ok(tree) => Ok(Some(tree)),
+        Ok(tree) => Ok(Some(Code::new(alloc, tree)?)),
         Err(ParseFault::Syntax(_)) => Ok(None),
         Err(ParseFault::NoMemory) => Err(NoMemory),
     }
@@ -64,7 +64,7 @@ fn resolve(
     package: &Text,
     form: &Sexp,
     packages: &mut Packages,
-) -> Result<Option<Ast>, NoMemory>
+) -> Result<Option<Code>, NoMemory>
     ensures tree { IfOk result (λ tree. tree ≡ tree_of (resolved packages.old «package».now form.now)) }
     ensures packages { OnOk result (packages.new ≡ packages_with packages.old (resolved packages.old «package».now form.now)) }
 {
@@ -84,18 +84,18 @@ fn resolve_in(
     package: &Text,
     form: &Sexp,
     image: &mut Image,
-) -> Result<Option<Ast>, NoMemory>
+) -> Result<Option<Code>, NoMemory>
     ensures tree { IfOk result (λ tree. tree ≡ tree_of (resolved image.old.packages «package».now form.now)) }
     ensures image { OnOk result (image.new ≡ image_with image.old (resolved image.old.packages «package».now form.now)) }
 {
     resolve(alloc, package, form, image.packages())
 }
 
-fn is_definition(tree: &Ast) -> bool
-    ensures { result ≡ is_definition (out-Ast tree.now) }
+fn is_definition(row: &Row) -> bool
+    ensures { result ≡ is_definition row.now }
 {
-    match tree {
-        Ast::Defun { .. } => true,
+    match row {
+        Row::Defun { .. } => true,
         _ => false,
     }
 }
@@ -104,24 +104,24 @@ fn is_definition(tree: &Ast) -> bool
 #[tactic(auto, using(crate::proofs::FormLemmas::placed_nowhere))]
 fn placed_found(
     alloc: Global,
-    tree: Ast,
+    tree: Code,
     origin: &Option<Origin>,
     at: u64,
 ) -> Result<Found, NoMemory>
-    ensures { IfOk result (λ found. found ≡ placed_found tree (out-Ast tree) origin.now at) }
+    ensures { IfOk result (λ found. found ≡ placed_found tree (row_of tree) origin.now at) }
 {
     match origin {
         Some(origin) => placed_in(alloc, tree, origin, at),
-        None => look(alloc, tree),
+        None => look(alloc, &tree),
     }
 }
 
 #[tactic(auto, using(crate::proofs::FormLemmas::placed_plain))]
-fn placed_in(alloc: Global, tree: Ast, origin: &Origin, at: u64) -> Result<Found, NoMemory>
-    ensures { IfOk result (λ found. found ≡ placed_found tree (out-Ast tree) (Some origin.now) at) }
+fn placed_in(alloc: Global, tree: Code, origin: &Origin, at: u64) -> Result<Found, NoMemory>
+    ensures { IfOk result (λ found. found ≡ placed_found tree (row_of tree) (Some origin.now) at) }
 {
-    if !is_definition(&tree) {
-        return look(alloc, tree);
+    if !is_definition(&tree.get().row) {
+        return look(alloc, &tree);
     }
     let origin = Origin {
         buffer: origin.buffer.copy(alloc)?,
@@ -153,13 +153,13 @@ fn before_forms(
 /// Goes into the tree of a form, before the forms behind it.
 fn go_into(
     alloc: Global,
-    tree: Ast,
+    tree: Code,
     at: u64,
     rest: Pile<Placed>,
     origin: Option<Origin>,
     stack: &mut Stack,
 ) -> Result<(), NoMemory>
-    ensures { OnOk result (stack.new ≡ gone stack.old (before_forms rest origin) (placed_found tree (out-Ast tree) origin at)) }
+    ensures { OnOk result (stack.new ≡ gone stack.old (before_forms rest origin) (placed_found tree (row_of tree) origin at)) }
 {
     let found = placed_found(alloc, tree, &origin, at)?;
     let markers = before_forms(alloc, rest, origin)?;
@@ -169,7 +169,7 @@ fn go_into(
 /// Goes into the tree of a form, or leaves where the form was refused. It says whether it left; so below.
 fn go_or_leave(
     alloc: Global,
-    tree: Option<Ast>,
+    tree: Option<Code>,
     at: u64,
     rest: Pile<Placed>,
     origin: Option<Origin>,
@@ -208,7 +208,7 @@ pub(crate) fn run(
 {
     let mut rest = forms;
     let Some(first) = rest.pop() else {
-        give_value(alloc, stack, Value::List(Rows::new(alloc)))?;
+        give_value(alloc, stack, Value::nil(alloc))?;
         return Ok(false);
     };
     let package = current_package(alloc, stack, image)?;

@@ -24,10 +24,18 @@ use std::alloc::Global;
 use term_model::Focus;
 
 /// A thread: its number, and its stack.
-#[derive(Drop)]
 pub struct Machine {
     pub stack: Stack,
     pub thread: u64,
+}
+
+impl Drop for Machine {
+    fn drop(self) {
+        let Machine {
+            stack: _,
+            thread: _,
+        } = self;
+    }
 }
 
 /// Does what a redex asked for. It says whether a request at the thread's top ended or an exit came to the top.

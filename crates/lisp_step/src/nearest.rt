@@ -1,6 +1,5 @@
 ghost use Rattle.std.specs.Prelude.{◌≡◌, reverse};
 ghost use Rattle.std.specs.Option.{option_copied};
-ghost use Rattle.lisp_sequences.specs.Same.{same_symbol};
 ghost use Rattle.term_model.specs.Levels.{served_form};
 ghost use Rattle.term_model.specs.Variables.{dynamic};
 ghost use Rattle.lisp_step.specs.Nearest.{bound_by, bound_by_plain, requested_by};
@@ -9,19 +8,13 @@ use lisp_data::{Sexp, Symbol, Value};
 use lisp_frames::Stack;
 use term_model::{Frame, Plain};
 
-fn is_same(a: &Symbol, b: &Symbol) -> bool
-    ensures { result ≡ same_symbol a.now b.now }
-{
-    a.home.as_str() == b.home.as_str() && a.name.as_str() == b.name.as_str()
-}
-
 /// The value that a plain layer binds a variable to dynamically.
 fn bound_by_plain<'a>(layer: &'a Plain, s: &Symbol) -> Option<&'a Value>
     ensures { option_copied result ≡ bound_by_plain s.now layer.now }
 {
     match layer {
         Plain::Dynamic { variable, value } => {
-            if is_same(variable.symbol(), s) {
+            if variable.symbol().same(s) {
                 return Some(value);
             }
             None

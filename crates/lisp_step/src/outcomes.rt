@@ -37,7 +37,7 @@ fn end(
     match served_form(stack) {
         Some(form) => end_rpc(alloc, form, kept, value, &package, image, outs),
         None => {
-            let form = Sexp::List(Rows::new(alloc));
+            let form = Sexp::nil(alloc);
             end_rpc(alloc, &form, kept, value, &package, image, outs)
         }
     }

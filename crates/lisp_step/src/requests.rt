@@ -11,8 +11,7 @@ use crate::current_package::current_package;
 use crate::going::lay;
 use crate::leaving::leave;
 use crate::nearest::served_form;
-use going_in::pile_of;
-use lisp_data::{NoMemory, Rows, Sexp, Text};
+use lisp_data::{NoMemory, Pile, Rows, Sexp, Text};
 use lisp_frames::Stack;
 use lisp_image::Image;
 use rpc_messages::ToEmacs;
@@ -32,7 +31,7 @@ fn evaluate(
 {
     let mut markers = Rows::new(alloc);
     markers.push(Plain::Answer(kept))?;
-    let forms = pile_of(alloc, forms)?;
+    let forms = Pile::of(forms);
     let origin = None;
     lay(
         alloc,
@@ -93,7 +92,7 @@ fn call_nearest(alloc: Global, stack: &Stack, image: &mut Image) -> Result<Optio
     let package = current_package(alloc, stack, image)?;
     match served_form(stack) {
         Some(form) => call_form(alloc, form, &package, image),
-        None => call_form(alloc, &Sexp::List(Rows::new(alloc)), &package, image),
+        None => call_form(alloc, &Sexp::nil(alloc), &package, image),
     }
 }
 

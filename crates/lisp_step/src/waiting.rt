@@ -5,11 +5,11 @@ ghost use Rattle.mailboxes.specs.Mail.{first_accepted, without_accepted};
 ghost use Rattle.step_model.specs.Perform.{answer_in};
 ghost use Rattle.term_model.specs.declared.focus.Focus.TheVariants as focus;
 ghost use Rattle.term_model.specs.declared.found.Found.TheVariants as found;
-ghost use Rattle.lisp_step.specs.Rows.{laid, received, truth, waited};
+ghost use Rattle.lisp_step.specs.Rows.{laid, received, waited};
 
 use crate::bound_package::{bound_package, package_markers};
 use crate::going::{give_value, lay};
-use lisp_data::{NoMemory, Rows, Sexp, Symbol, Text, Value};
+use lisp_data::{NoMemory, Rows, Sexp, Value};
 use lisp_frames::Stack;
 use lisp_image::Image;
 use mailboxes::Mailbox;
@@ -30,28 +30,15 @@ fn begin(
     lay(alloc, stack, markers, Found::Here(Focus::Rpc))
 }
 
-/// T or NIL.
-fn truth(alloc: Global, holds: bool) -> Result<Value, NoMemory>
-    ensures { IfOk result (λ value. value ≡ truth holds) }
-{
-    if !holds {
-        return Ok(Value::List(Rows::new(alloc)));
-    }
-    Ok(Value::Sym(Symbol {
-        home: Text::of(alloc, "COMMON-LISP")?,
-        name: Text::of(alloc, "T")?,
-    }))
-}
-
 /// The value that the answer to a question gives.
-fn answer(alloc: Global, form: Sexp) -> Result<Value, NoMemory>
-    ensures { IfOk result (λ value. value ≡ answer_in (out-Sexp form)) }
+fn answer(alloc: Global, form: &Sexp) -> Result<Value, NoMemory>
+    ensures { IfOk result (λ value. value ≡ answer_in (out-Sexp form.now)) }
 {
     match form {
-        Sexp::Str(text) => Ok(Value::Str(text)),
-        Sexp::Int(number) => Ok(Value::Int(number)),
-        Sexp::List(items) => truth(alloc, !items.is_empty()),
-        Sexp::Sym(_) => truth(alloc, true),
+        Sexp::Str(text) => Ok(Value::Str(text.copy(alloc)?)),
+        Sexp::Int(number) => Ok(Value::Int(*number)),
+        Sexp::List(items) => Value::truth(alloc, !items.is_empty()),
+        Sexp::Sym(_) => Value::truth(alloc, true),
     }
 }
 
@@ -77,7 +64,7 @@ fn receive(
             begin(alloc, Frame::Rex { at, id, form }, markers, stack)
         }
         FromEmacs::ReturnString { text, .. } => give_value(alloc, stack, Value::Str(text)),
-        FromEmacs::Return { value, .. } => give_value(alloc, stack, answer(alloc, value)?),
+        FromEmacs::Return { value, .. } => give_value(alloc, stack, answer(alloc, &value)?),
         FromEmacs::Interrupt { .. } | FromEmacs::Unreadable { .. } => Ok(()),
     }
 }

@@ -8,7 +8,8 @@ use Rattle.std.proofs.lemmas.Slice.Eq.{bytes_eq-Decides}
 use Rattle.lisp_data.specs.declared.type_id.TypeId.{TypeId}
 use Rattle.lisp_data.specs.declared.type_id.TypeId.TheVariants as type
 use Rattle.lisp_types.specs.declared.TheConstants.{ALL}
-use Rattle.lisp_types.specs.Types.{name_of, parents_of}
+use Rattle.lisp_data.specs.TypeNames.{name_of}
+use Rattle.lisp_types.specs.Types.{parents_of}
 
 -- the longest chain of direct parents from a type
 abbrev pub height_of : TypeId → ℕ

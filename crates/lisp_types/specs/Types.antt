@@ -1,41 +1,12 @@
--- The table of types: their names, their direct parents, what is a subtype of what, and the type of a value.
-use Rattle.std.specs.Prelude.{ℕ, List, [], ◌∷◌, Contains, codes, if◌then◌else◌}
-use Rattle.std.specs.Str.{bytes_eq}
+-- The table of types: their direct parents, what is a subtype of what, and the type of a value.
+use Rattle.std.specs.Prelude.{List, [], ◌∷◌, Contains, if◌then◌else◌}
+use Rattle.lisp_data.specs.Symbols.{is_keyword}
 use Rattle.lisp_data.specs.declared.type_id.TypeId.{TypeId}
 use Rattle.lisp_data.specs.declared.type_id.TypeId.TheVariants as type
 use Rattle.lisp_data.specs.declared.value.Value.{Value}
 use Rattle.lisp_data.specs.declared.value.Value.TheOpen.{Value-F}
 use Rattle.lisp_data.specs.declared.value.Value.TheViews.{out-Value}
 use Rattle.lisp_data.specs.declared.value.Condition.{Condition}
-
--- the name of a type's symbol (HyperSpec 4.2.3, figure 4-2)
-abbrev pub name_of : TypeId → List ℕ
-name_of type.T = codes "T"
-name_of type.Condition = codes "CONDITION"
-name_of type.SeriousCondition = codes "SERIOUS-CONDITION"
-name_of type.SimpleCondition = codes "SIMPLE-CONDITION"
-name_of type.Warning = codes "WARNING"
-name_of type.Error = codes "ERROR"
-name_of type.StorageCondition = codes "STORAGE-CONDITION"
-name_of type.SimpleError = codes "SIMPLE-ERROR"
-name_of type.SimpleWarning = codes "SIMPLE-WARNING"
-name_of type.StyleWarning = codes "STYLE-WARNING"
-name_of type.ArithmeticError = codes "ARITHMETIC-ERROR"
-name_of type.CellError = codes "CELL-ERROR"
-name_of type.ControlError = codes "CONTROL-ERROR"
-name_of type.ProgramError = codes "PROGRAM-ERROR"
-name_of type.TypeError = codes "TYPE-ERROR"
-name_of type.DivisionByZero = codes "DIVISION-BY-ZERO"
-name_of type.UnboundVariable = codes "UNBOUND-VARIABLE"
-name_of type.UndefinedFunction = codes "UNDEFINED-FUNCTION"
-name_of type.List = codes "LIST"
-name_of type.Symbol = codes "SYMBOL"
-name_of type.String = codes "STRING"
-name_of type.Number = codes "NUMBER"
-name_of type.Cons = codes "CONS"
-name_of type.Null = codes "NULL"
-name_of type.Keyword = codes "KEYWORD"
-name_of type.Integer = codes "INTEGER"
 
 -- the direct parents of a type (HyperSpec 9.1.1, figure 9-1 for conditions, 4.2.2 for the others)
 abbrev pub parents_of : TypeId → List TypeId
@@ -75,7 +46,7 @@ pub data IsA : TypeId → TypeId → Type 0 where
 abbrev pub type_at : Value-F Value Condition → TypeId
 type_at (Value-F.Int n) = type.Integer
 type_at (Value-F.Str text) = type.String
-type_at (Value-F.Sym symbol) = if bytes_eq symbol.home (codes "KEYWORD") then type.Keyword else type.Symbol
+type_at (Value-F.Sym symbol) = if is_keyword symbol then type.Keyword else type.Symbol
 type_at (Value-F.List []) = type.Null
 type_at (Value-F.List (first ∷ others)) = type.Cons
 type_at (Value-F.Cond condition) = condition.kind

@@ -1,21 +1,20 @@
-//! The types of values and of conditions: their names, which is a subtype of which, and the type of a value.
+//! The types of values and of conditions: the type of a name, which type is a subtype of which, and the type of a value.
 //!
-//! The table of names and the table of direct parents are data, each with one definition in `specs/Types.antt` and one match
-//! here. What the crates above use is that [`subtype`] holds exactly where a chain of direct parents leads from one type to
-//! the other. No call takes memory.
+//! The table of direct parents is data, with one definition in `specs/Types.antt` and one match here. What the crates above use
+//! is that [`is_kind`] holds exactly where a chain of direct parents leads from one type to the other, and that definitions
+//! compute with it (`specs/Kinds.antt`). No call takes memory.
 #![tactic(auto)]
 
 #[cfg(test)]
 mod tests;
 
-ghost use Rattle.std.specs.List.{find};
 ghost use Rattle.std.specs.Prelude.{◌≡◌, ◌↔◌, IsTrue, Some};
-ghost use Rattle.std.specs.Str.{bytes_eq};
 ghost use Rattle.lisp_data.specs.declared.type_id.TypeId.{TypeId};
-ghost use Rattle.lisp_types.specs.declared.TheConstants.{ALL};
-ghost use Rattle.lisp_types.specs.Types.{name_of, parents_of, type_of, IsA};
+ghost use Rattle.lisp_data.specs.TypeNames.{name_of};
+ghost use Rattle.lisp_types.specs.Kinds.{is_kind, type_by_name};
+ghost use Rattle.lisp_types.specs.Types.{parents_of, type_of, IsA};
 
-use lisp_data::{Condition, Symbol, TypeId, Value};
+use lisp_data::{Condition, TypeId, Value};
 
 const ALL: [TypeId; 26] = [
     TypeId::T,
@@ -46,51 +45,19 @@ const ALL: [TypeId; 26] = [
     TypeId::Integer,
 ];
 
-/// The name of a type's symbol, in upper case.
-pub fn name_of(t: TypeId) -> &'static str
-    ensures { result.now ≡ name_of t }
-{
-    match t {
-        TypeId::T => "T",
-        TypeId::Condition => "CONDITION",
-        TypeId::SeriousCondition => "SERIOUS-CONDITION",
-        TypeId::SimpleCondition => "SIMPLE-CONDITION",
-        TypeId::Warning => "WARNING",
-        TypeId::Error => "ERROR",
-        TypeId::StorageCondition => "STORAGE-CONDITION",
-        TypeId::SimpleError => "SIMPLE-ERROR",
-        TypeId::SimpleWarning => "SIMPLE-WARNING",
-        TypeId::StyleWarning => "STYLE-WARNING",
-        TypeId::ArithmeticError => "ARITHMETIC-ERROR",
-        TypeId::CellError => "CELL-ERROR",
-        TypeId::ControlError => "CONTROL-ERROR",
-        TypeId::ProgramError => "PROGRAM-ERROR",
-        TypeId::TypeError => "TYPE-ERROR",
-        TypeId::DivisionByZero => "DIVISION-BY-ZERO",
-        TypeId::UnboundVariable => "UNBOUND-VARIABLE",
-        TypeId::UndefinedFunction => "UNDEFINED-FUNCTION",
-        TypeId::List => "LIST",
-        TypeId::Symbol => "SYMBOL",
-        TypeId::String => "STRING",
-        TypeId::Number => "NUMBER",
-        TypeId::Cons => "CONS",
-        TypeId::Null => "NULL",
-        TypeId::Keyword => "KEYWORD",
-        TypeId::Integer => "INTEGER",
-    }
-}
-
 /// The type of that name, which is compared as it stands: a type's name is in upper case.
-pub fn type_named(name: &str) -> Option<TypeId>
-    ensures { (t : TypeId) → (result ≡ Some t) ↔ (name.now ≡ name_of t) }
+pub fn type_by_name(name: &str) -> Option<TypeId>
+    ensures value { result ≡ type_by_name name.now }
+    ensures law { (t : TypeId) → (result ≡ Some t) ↔ (name.now ≡ name_of t) }
 {
     first_named(name)
 }
 
+#[tactic(auto, unfolding(crate::specs::Kinds::type_by_name))]
 fn first_named(name: &str) -> Option<TypeId>
-    ensures { result ≡ find (λ t. bytes_eq (name_of t) name.now) ALL }
+    ensures { result ≡ type_by_name name.now }
 {
-    ALL.iter().copied().find(|t| name_of(*t) == name)
+    ALL.iter().copied().find(|t| t.name() == name)
 }
 
 fn parents_of(t: TypeId) -> &'static [TypeId]
@@ -127,19 +94,26 @@ fn parents_of(t: TypeId) -> &'static [TypeId]
 }
 
 /// Whether each value of the first type is one of the second (HyperSpec, function SUBTYPEP).
-pub fn subtype(a: TypeId, b: TypeId) -> bool
-    ensures { IsTrue result ↔ IsA a b }
+pub fn is_kind(a: TypeId, b: TypeId) -> bool
+    ensures value { result ≡ is_kind a b }
+    ensures law { IsTrue result ↔ IsA a b }
 {
     if a == b {
         return true;
     }
     for parent in parents_of(a) {
-        if subtype(*parent, b) {
+        if is_kind(*parent, b) {
             return true;
         }
     }
     false
 }
+
+/// A law of all types: the test holds exactly where a chain of direct parents leads from one to the other. The body is empty,
+/// since the law is about the definitions.
+pub fn kinds_are_chains()
+    ensures { (a b : TypeId) → IsTrue (is_kind a b) ↔ IsA a b }
+{}
 
 /// The most specific type of a value (HyperSpec, function TYPE-OF).
 pub fn type_of(value: &Value) -> TypeId
@@ -148,7 +122,7 @@ pub fn type_of(value: &Value) -> TypeId
     match value {
         Value::Int(_) => TypeId::Integer,
         Value::Str(_) => TypeId::String,
-        Value::Sym(Symbol { home, .. }) if home.as_str() == "KEYWORD" => TypeId::Keyword,
+        Value::Sym(symbol) if symbol.is_keyword() => TypeId::Keyword,
         Value::Sym(_) => TypeId::Symbol,
         Value::List(items) if items.is_empty() => TypeId::Null,
         Value::List(_) => TypeId::Cons,

@@ -1,14 +1,6 @@
-use crate::{name_of, subtype, type_named, type_of, type_of_condition};
-use lisp_data::{Condition, NoMemory, Rows, Symbol, Text, TypeId, Value};
-use std::alloc::Global;
+use crate::{is_kind, type_by_name, type_of, type_of_condition};
+use lisp_data::{Condition, Symbol, Text, TypeId, Value};
 use std::test::Fail;
-
-fn symbol(alloc: Global, home: &str, name: &str) -> Result<Value, NoMemory> {
-    Ok(Value::Sym(Symbol {
-        home: Text::of(alloc, home)?,
-        name: Text::of(alloc, name)?,
-    }))
-}
 
 #[test]
 fn chains_of_parents_lead_up_and_never_down(rt: HostRuntime) {
@@ -26,8 +18,8 @@ fn chains_of_parents_lead_up_and_never_down(rt: HostRuntime) {
         ("NULL", "CONS", false),
         ("KEYWORD", "LIST", false),
     ] {
-        let found = match (type_named(a), type_named(b)) {
-            (Some(a), Some(b)) => Some(subtype(a, b)),
+        let found = match (type_by_name(a), type_by_name(b)) {
+            (Some(a), Some(b)) => Some(is_kind(a, b)),
             _ => None,
         };
         assert_eq!(rt; found, Some(want), "{a} as {b}");
@@ -36,28 +28,29 @@ fn chains_of_parents_lead_up_and_never_down(rt: HostRuntime) {
 
 #[test]
 fn names_are_those_of_the_standard(rt: HostRuntime) {
-    assert_eq!(rt; name_of(TypeId::UndefinedFunction), "UNDEFINED-FUNCTION");
+    assert_eq!(rt; TypeId::UndefinedFunction.name(), "UNDEFINED-FUNCTION");
     assert_eq!(rt;
-        type_named("UNDEFINED-FUNCTION"),
+        type_by_name("UNDEFINED-FUNCTION"),
         Some(TypeId::UndefinedFunction)
     );
     for name in ["", "error", "FLOAT", "ERROR ", "SIMPLE-TYPE-ERROR"] {
-        assert_eq!(rt; type_named(name), None, "{name}");
+        assert_eq!(rt; type_by_name(name), None, "{name}");
     }
 }
 
 #[test]
 fn values_have_the_types_of_the_standard(rt: HostRuntime) -> Result<(), Fail> {
     let alloc = rt.alloc();
-    let mut items = Rows::new(alloc);
-    items.push(Value::Int(1))?;
-    assert_eq!(rt; type_of(&Value::List(items)), TypeId::Cons);
-    assert_eq!(rt; type_of(&Value::List(Rows::new(alloc))), TypeId::Null);
-    assert_eq!(rt; type_of(&symbol(alloc, "KEYWORD", "A")?), TypeId::Keyword);
     assert_eq!(rt;
-        type_of(&symbol(alloc, "COMMON-LISP", "T")?),
-        TypeId::Symbol
+        type_of(&Value::list(alloc, [Value::Int(1)])?),
+        TypeId::Cons
     );
+    assert_eq!(rt; type_of(&Value::nil(alloc)), TypeId::Null);
+    assert_eq!(rt;
+        type_of(&Value::Sym(Symbol::keyword(alloc, "A")?)),
+        TypeId::Keyword
+    );
+    assert_eq!(rt; type_of(&Value::truth(alloc, true)?), TypeId::Symbol);
     let condition = Condition {
         kind: TypeId::CellError,
         message: Text::new(alloc),

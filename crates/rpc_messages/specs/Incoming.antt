@@ -1,6 +1,7 @@
 -- The shapes of the messages that Emacs sends, after `dispatch-event` of SLIME's `swank.lisp`.
 use Rattle.std.specs.Prelude.{◌≡◌, ℕ, ℤ, pos, Bool, false, if◌then◌else◌, List, [], ◌∷◌, codes, Option, Some, None, IsSome, Result, Ok, Err}
 use Rattle.std.specs.Str.{str_eq_ignore_ascii_case}
+use Rattle.lisp_data.specs.Parts.{form_text}
 use Rattle.lisp_data.specs.declared.sexp.Sexp.{Sexp, out-Sexp}
 use Rattle.lisp_data.specs.declared.sexp.Sexp.TheOpen.{Sexp-F}
 use Rattle.rpc_messages.specs.declared.from_emacs.FromEmacs.{FromEmacs}
@@ -44,11 +45,6 @@ unless_new name = name
 abbrev pub standing_in : Sexp-F Sexp → Option ThreadName
 standing_in form = unless_new (thread_in form)
 
--- STRING
-abbrev pub string_in : Sexp-F Sexp → Option (List ℕ)
-string_in (Sexp-F.Str text) = Some text
-string_in _ = None
-
 -- PACKAGE: a string or nil
 abbrev pub package_in : Sexp-F Sexp → Option (Option (List ℕ))
 package_in (Sexp-F.Str text) = Some (Some text)
@@ -79,7 +75,7 @@ return_string_of _ _ _ = None
 
 -- after `:emacs-return-string`: THREAD TAG STRING
 abbrev pub return_string_in : List Sexp → Option FromEmacs
-return_string_in (thread ∷ tag ∷ text ∷ _) = return_string_of (standing_in (out-Sexp thread)) (natural_in (out-Sexp tag)) (string_in (out-Sexp text))
+return_string_in (thread ∷ tag ∷ text ∷ _) = return_string_of (standing_in (out-Sexp thread)) (natural_in (out-Sexp tag)) (form_text text)
 return_string_in _ = None
 
 abbrev pub return_of : Option ThreadName → Option ℕ → Sexp → Option FromEmacs

@@ -1,4 +1,5 @@
 ghost use Rattle.std.specs.Prelude.{◌≡◌, ◌↔◌, IfOk};
+ghost use Rattle.lisp_data.specs.Parts.{form_text};
 ghost use Rattle.lisp_data.specs.declared.sexp.Sexp.{out-Sexp};
 ghost use Rattle.rpc_messages.specs.Incoming as incoming;
 ghost use Rattle.rpc_messages.specs.Incoming.{Finds, message_in};
@@ -18,7 +19,7 @@ pub enum ThreadName {
 }
 
 /// A message from Emacs, after `dispatch-event` of SLIME's `swank.lisp`.
-#[derive(Debug, Drop)]
+#[derive(Drop)]
 pub enum FromEmacs {
     /// `(:emacs-rex FORM PACKAGE THREAD ID)`: evaluate FORM, and answer with ID.
     Rex {
@@ -120,11 +121,11 @@ fn standing_thread(form: &Sexp) -> Option<ThreadName>
 }
 
 fn string(alloc: Global, form: &Sexp) -> Result<Text, MessageFault>
-    ensures { Finds result (incoming.string_in (out-Sexp form.now)) }
+    ensures { Finds result (form_text form.now) }
 {
-    match form {
-        Sexp::Str(text) => Ok(text.copy(alloc)?),
-        _ => Err(MessageFault::UnknownMessage),
+    match form.as_text() {
+        Some(text) => Ok(text.copy(alloc)?),
+        None => Err(MessageFault::UnknownMessage),
     }
 }
 
@@ -217,11 +218,8 @@ pub fn of_sexp(alloc: Global, form: &Sexp) -> Result<FromEmacs, MessageFault>
     ensures found { IfOk result (λ m. message_in form.now ≡ Some m) }
     ensures unknown { (result ≡ Err MessageFault.UnknownMessage) ↔ (message_in form.now ≡ None) }
 {
-    let Sexp::List(items) = form else {
-        return Err(MessageFault::UnknownMessage);
-    };
-    match items.as_slice() {
-        [head, parts @ ..] => message(alloc, head, parts),
-        [] => Err(MessageFault::UnknownMessage),
+    match form.as_list() {
+        Some([head, parts @ ..]) => message(alloc, head, parts),
+        _ => Err(MessageFault::UnknownMessage),
     }
 }

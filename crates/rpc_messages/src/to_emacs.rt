@@ -11,28 +11,28 @@ use lisp_data::{NoMemory, Rows, Sexp, Text};
 use std::alloc::Global;
 
 /// How a request ended.
-#[derive(Debug, Drop)]
+#[derive(Drop)]
 pub enum Returned {
     Ok(Sexp),
     Abort,
 }
 
 /// A restart as a debugger level lists it.
-#[derive(Debug, Drop)]
+#[derive(Drop)]
 pub struct RestartLine {
     pub name: Text,
     pub text: Text,
 }
 
 /// A frame as a debugger level lists it, with its number from 0.
-#[derive(Debug, Drop)]
+#[derive(Drop)]
 pub struct FrameLine {
     pub number: u64,
     pub text: Text,
 }
 
 /// A message to Emacs. Each form is what `slime-dispatch-event` of SLIME takes.
-#[derive(Debug, Drop)]
+#[derive(Drop)]
 pub enum ToEmacs {
     /// `(:return (:ok VALUE) ID)` or `(:return (:abort "NIL") ID)`
     Return {
@@ -103,18 +103,6 @@ pub enum ToEmacs {
     },
 }
 
-fn symbol(alloc: Global, name: &str) -> Result<Sexp, NoMemory>
-    ensures { IfOk result (λ x. x ≡ form.Sym name.now) }
-{
-    Ok(Sexp::Sym(Text::of(alloc, name)?))
-}
-
-fn string(alloc: Global, text: &str) -> Result<Sexp, NoMemory>
-    ensures { IfOk result (λ x. x ≡ form.Str text.now) }
-{
-    Ok(Sexp::Str(Text::of(alloc, text)?))
-}
-
 fn integer(n: &i64) -> Sexp
     ensures form { result ≡ form.Int n.now }
     ensures fits { FitsSigned w64 n.now }
@@ -129,72 +117,26 @@ fn number(n: u64) -> Sexp
     Sexp::Int(n as i64)
 }
 
-fn nil(alloc: Global) -> Sexp
-    ensures { result ≡ outgoing.nil }
-{
-    Sexp::List(Rows::new(alloc))
-}
-
-fn one(alloc: Global, a: Sexp) -> Result<Rows<Sexp>, NoMemory>
-    ensures { IfOk result (λ x. x ≡ a ∷ []) }
-{
-    let mut items = Rows::new(alloc);
-    items.push(a)?;
-    Ok(items)
-}
-
-/// The list of two items.
-fn pair(alloc: Global, a: Sexp, b: Sexp) -> Result<Rows<Sexp>, NoMemory>
-    ensures { IfOk result (λ x. x ≡ a ∷ b ∷ []) }
-{
-    let mut items = one(alloc, a)?;
-    items.push(b)?;
-    Ok(items)
-}
-
-/// The list of three items.
-fn triple(alloc: Global, a: Sexp, b: Sexp, c: Sexp) -> Result<Rows<Sexp>, NoMemory>
-    ensures { IfOk result (λ x. x ≡ a ∷ b ∷ c ∷ []) }
-{
-    let mut items = pair(alloc, a, b)?;
-    items.push(c)?;
-    Ok(items)
-}
-
 fn result_form(alloc: Global, how: &Returned) -> Result<Sexp, NoMemory>
     ensures { IfOk result (λ x. x ≡ outgoing.returned_form how.now) }
 {
-    let items = match how {
-        Returned::Ok(value) => pair(alloc, symbol(alloc, ":OK")?, value.copy(alloc)?)?,
-        Returned::Abort => pair(
-            alloc,
-            symbol(alloc, ":ABORT")?,
-            Sexp::Str(Text::of(alloc, "NIL")?),
-        )?,
+    let parts = match how {
+        Returned::Ok(value) => [Sexp::symbol(alloc, ":OK")?, value.copy(alloc)?],
+        Returned::Abort => [Sexp::symbol(alloc, ":ABORT")?, Sexp::string(alloc, "NIL")?],
     };
-    Ok(Sexp::List(items))
+    Ok(Sexp::list(alloc, parts)?)
 }
 
 /// `(HEAD FIRST SECOND)`, of two texts.
 fn of_texts(alloc: Global, head: &str, first: &str, second: &str) -> Result<Sexp, NoMemory>
     ensures { IfOk result (λ x. x ≡ outgoing.message head.now (form.Str first.now ∷ form.Str second.now ∷ [])) }
 {
-    let items = triple(
-        alloc,
-        symbol(alloc, head)?,
-        string(alloc, first)?,
-        string(alloc, second)?,
-    )?;
-    Ok(Sexp::List(items))
-}
-
-/// `(HEAD THREAD NUMBER)`
-fn of_thread(alloc: Global, head: &str, thread: u64, tag: u64) -> Result<Rows<Sexp>, NoMemory>
-    requires thread { thread < 2 ^ 63 }
-    requires tag { tag < 2 ^ 63 }
-    ensures { IfOk result (λ x. x ≡ form.Sym head.now ∷ outgoing.number thread ∷ outgoing.number tag ∷ []) }
-{
-    triple(alloc, symbol(alloc, head)?, number(thread), number(tag))
+    let parts = [
+        Sexp::symbol(alloc, head)?,
+        Sexp::string(alloc, first)?,
+        Sexp::string(alloc, second)?,
+    ];
+    Ok(Sexp::list(alloc, parts)?)
 }
 
 /// `(HEAD THREAD NUMBER MORE)`
@@ -209,19 +151,25 @@ fn of_thread_and(
     requires tag { tag < 2 ^ 63 }
     ensures { IfOk result (λ x. x ≡ outgoing.message head.now (outgoing.number thread ∷ outgoing.number tag ∷ more ∷ [])) }
 {
-    let mut items = of_thread(alloc, head, thread, tag)?;
-    items.push(more)?;
-    Ok(Sexp::List(items))
+    let parts = [
+        Sexp::symbol(alloc, head)?,
+        number(thread),
+        number(tag),
+        more,
+    ];
+    Ok(Sexp::list(alloc, parts)?)
 }
 
 fn write_string(alloc: Global, text: &str, repl_result: bool) -> Result<Sexp, NoMemory>
     ensures { IfOk result (λ x. x ≡ outgoing.write_string_form text.now repl_result) }
 {
-    let mut items = pair(alloc, symbol(alloc, ":WRITE-STRING")?, string(alloc, text)?)?;
+    let head = Sexp::symbol(alloc, ":WRITE-STRING")?;
+    let text = Sexp::string(alloc, text)?;
     if repl_result {
-        items.push(symbol(alloc, ":REPL-RESULT")?)?;
+        let mark = Sexp::symbol(alloc, ":REPL-RESULT")?;
+        return Ok(Sexp::list(alloc, [head, text, mark])?);
     }
-    Ok(Sexp::List(items))
+    Ok(Sexp::list(alloc, [head, text])?)
 }
 
 fn restart_line(alloc: Global, line: &RestartLine) -> Result<Sexp, NoMemory>
@@ -230,8 +178,8 @@ fn restart_line(alloc: Global, line: &RestartLine) -> Result<Sexp, NoMemory>
 {
     let name = line.name.as_str();
     let text = line.text.as_str();
-    let items = pair(alloc, string(alloc, name)?, string(alloc, text)?)?;
-    Ok(Sexp::List(items))
+    let parts = [Sexp::string(alloc, name)?, Sexp::string(alloc, text)?];
+    Ok(Sexp::list(alloc, parts)?)
 }
 
 fn frame_line(alloc: Global, line: &FrameLine) -> Result<Sexp, NoMemory>
@@ -239,9 +187,11 @@ fn frame_line(alloc: Global, line: &FrameLine) -> Result<Sexp, NoMemory>
     ensures form { IfOk result (λ x. x ≡ outgoing.frame_form line.now) }
     ensures text { HasText line.now }
 {
-    let text = line.text.as_str();
-    let items = pair(alloc, number(line.number), string(alloc, text)?)?;
-    Ok(Sexp::List(items))
+    let parts = [
+        number(line.number),
+        Sexp::string(alloc, line.text.as_str())?,
+    ];
+    Ok(Sexp::list(alloc, parts)?)
 }
 
 fn restart_lines(alloc: Global, lines: &[RestartLine]) -> Result<Sexp, NoMemory>
@@ -281,33 +231,35 @@ fn ids(alloc: Global, ids: &[i64]) -> Result<Sexp, NoMemory>
 fn heading(alloc: Global, message: &str, type_line: &str) -> Result<Sexp, NoMemory>
     ensures { IfOk result (λ x. x ≡ outgoing.heading_form message.now type_line.now) }
 {
-    let items = triple(
-        alloc,
-        string(alloc, message)?,
-        string(alloc, type_line)?,
-        nil(alloc),
-    )?;
-    Ok(Sexp::List(items))
+    let parts = [
+        Sexp::string(alloc, message)?,
+        Sexp::string(alloc, type_line)?,
+        Sexp::nil(alloc),
+    ];
+    Ok(Sexp::list(alloc, parts)?)
 }
 
 fn return_message(alloc: Global, id: i64, how: &Returned) -> Result<Sexp, NoMemory>
     ensures { IfOk result (λ x. x ≡ outgoing.message (codes ":RETURN") (outgoing.returned_form how.now ∷ form.Int id ∷ [])) }
 {
-    let items = triple(
-        alloc,
-        symbol(alloc, ":RETURN")?,
+    let parts = [
+        Sexp::symbol(alloc, ":RETURN")?,
         result_form(alloc, how)?,
         Sexp::Int(id),
-    )?;
-    Ok(Sexp::List(items))
+    ];
+    Ok(Sexp::list(alloc, parts)?)
 }
 
 /// `(HEAD NUMBER TEXT)`
 fn of_number_and_text(alloc: Global, head: &str, number: Sexp, text: &str) -> Result<Sexp, NoMemory>
     ensures { IfOk result (λ x. x ≡ outgoing.message head.now (number ∷ form.Str text.now ∷ [])) }
 {
-    let items = triple(alloc, symbol(alloc, head)?, number, string(alloc, text)?)?;
-    Ok(Sexp::List(items))
+    let parts = [
+        Sexp::symbol(alloc, head)?,
+        number,
+        Sexp::string(alloc, text)?,
+    ];
+    Ok(Sexp::list(alloc, parts)?)
 }
 
 /// `(HEAD THREAD TAG)`
@@ -316,7 +268,8 @@ fn of_question(alloc: Global, head: &str, thread: u64, tag: u64) -> Result<Sexp,
     requires tag { tag < 2 ^ 63 }
     ensures { IfOk result (λ x. x ≡ outgoing.message head.now (outgoing.number thread ∷ outgoing.number tag ∷ [])) }
 {
-    Ok(Sexp::List(of_thread(alloc, head, thread, tag)?))
+    let parts = [Sexp::symbol(alloc, head)?, number(thread), number(tag)];
+    Ok(Sexp::list(alloc, parts)?)
 }
 
 fn yes_no(alloc: Global, thread: u64, tag: u64, text: &str) -> Result<Sexp, NoMemory>
@@ -324,7 +277,7 @@ fn yes_no(alloc: Global, thread: u64, tag: u64, text: &str) -> Result<Sexp, NoMe
     requires tag { tag < 2 ^ 63 }
     ensures { IfOk result (λ x. x ≡ outgoing.message (codes ":Y-OR-N-P") (outgoing.number thread ∷ outgoing.number tag ∷ form.Str text.now ∷ [])) }
 {
-    let text = string(alloc, text)?;
+    let text = Sexp::string(alloc, text)?;
     of_thread_and(alloc, ":Y-OR-N-P", thread, tag, text)
 }
 
@@ -334,7 +287,7 @@ fn of_level(alloc: Global, head: &str, thread: u64, level: u64) -> Result<Sexp, 
     requires level { level < 2 ^ 63 }
     ensures { IfOk result (λ x. x ≡ outgoing.message head.now (outgoing.number thread ∷ outgoing.number level ∷ outgoing.nil ∷ [])) }
 {
-    of_thread_and(alloc, head, thread, level, nil(alloc))
+    of_thread_and(alloc, head, thread, level, Sexp::nil(alloc))
 }
 
 /// A debugger level: its parts after the thread and the level, as forms.
@@ -351,12 +304,16 @@ fn debug(alloc: Global, thread: u64, level: u64, parts: LevelParts) -> Result<Se
     requires level { level < 2 ^ 63 }
     ensures { IfOk result (λ x. x ≡ outgoing.message (codes ":DEBUG") (outgoing.number thread ∷ outgoing.number level ∷ parts.heading ∷ parts.restarts ∷ parts.frames ∷ parts.continuations ∷ [])) }
 {
-    let mut items = of_thread(alloc, ":DEBUG", thread, level)?;
-    items.push(parts.heading)?;
-    items.push(parts.restarts)?;
-    items.push(parts.frames)?;
-    items.push(parts.continuations)?;
-    Ok(Sexp::List(items))
+    let parts = [
+        Sexp::symbol(alloc, ":DEBUG")?,
+        number(thread),
+        number(level),
+        parts.heading,
+        parts.restarts,
+        parts.frames,
+        parts.continuations,
+    ];
+    Ok(Sexp::list(alloc, parts)?)
 }
 
 fn made(alloc: Global, m: &ToEmacs) -> Result<Sexp, NoMemory>

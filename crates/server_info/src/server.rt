@@ -2,56 +2,61 @@ ghost use Rattle.std.specs.Prelude.{◌≡◌, [], ◌∷◌, ◌++◌, IfOk, On
 ghost use Rattle.lisp_data.specs.declared.sexp.Sexp.TheVariants as form;
 ghost use Rattle.server_info.specs.Info as spec;
 
-use crate::forms::{list, nil, string, symbol};
 use lisp_data::{NoMemory, Rows, Sexp};
 use std::alloc::Global;
 
 fn encoding(alloc: Global) -> Result<Sexp, NoMemory>
     ensures { IfOk result (λ x. x ≡ spec.encoding) }
 {
-    let systems = [string(alloc, "utf-8-unix")?];
-    let parts = [symbol(alloc, ":CODING-SYSTEMS")?, list(alloc, systems)?];
-    Ok(list(alloc, parts)?)
+    let systems = [Sexp::string(alloc, "utf-8-unix")?];
+    let parts = [
+        Sexp::symbol(alloc, ":CODING-SYSTEMS")?,
+        Sexp::list(alloc, systems)?,
+    ];
+    Ok(Sexp::list(alloc, parts)?)
 }
 
 fn implementation(alloc: Global) -> Result<Sexp, NoMemory>
     ensures { IfOk result (λ x. x ≡ spec.implementation) }
 {
     let parts = [
-        symbol(alloc, ":TYPE")?,
-        string(alloc, "Profile")?,
-        symbol(alloc, ":NAME")?,
-        string(alloc, "profile")?,
-        symbol(alloc, ":VERSION")?,
-        string(alloc, "1")?,
+        Sexp::symbol(alloc, ":TYPE")?,
+        Sexp::string(alloc, "Profile")?,
+        Sexp::symbol(alloc, ":NAME")?,
+        Sexp::string(alloc, "profile")?,
+        Sexp::symbol(alloc, ":VERSION")?,
+        Sexp::string(alloc, "1")?,
     ];
-    Ok(list(alloc, parts)?)
+    Ok(Sexp::list(alloc, parts)?)
 }
 
 fn machine(alloc: Global) -> Result<Sexp, NoMemory>
     ensures { IfOk result (λ x. x ≡ spec.machine) }
 {
-    let parts = [symbol(alloc, ":INSTANCE")?, string(alloc, "none")?];
-    Ok(list(alloc, parts)?)
+    let parts = [
+        Sexp::symbol(alloc, ":INSTANCE")?,
+        Sexp::string(alloc, "none")?,
+    ];
+    Ok(Sexp::list(alloc, parts)?)
 }
 
 fn package_line(alloc: Global, name: &str, prompt: &str) -> Result<Sexp, NoMemory>
     ensures { IfOk result (λ x. x ≡ spec.package_line name.now prompt.now) }
 {
     let parts = [
-        symbol(alloc, ":NAME")?,
-        string(alloc, name)?,
-        symbol(alloc, ":PROMPT")?,
-        string(alloc, prompt)?,
+        Sexp::symbol(alloc, ":NAME")?,
+        Sexp::string(alloc, name)?,
+        Sexp::symbol(alloc, ":PROMPT")?,
+        Sexp::string(alloc, prompt)?,
     ];
-    Ok(list(alloc, parts)?)
+    Ok(Sexp::list(alloc, parts)?)
 }
 
 /// Adds a key and its value at the end.
 fn add(alloc: Global, parts: &mut Rows<Sexp>, key: &str, value: Sexp) -> Result<(), NoMemory>
     ensures { OnOk result (parts.new ≡ parts.old ++ form.Sym key.now ∷ value ∷ []) }
 {
-    parts.push(symbol(alloc, key)?)?;
+    parts.push(Sexp::symbol(alloc, key)?)?;
     parts.push(value)?;
     Ok(())
 }
@@ -61,7 +66,7 @@ fn about_server(alloc: Global) -> Result<Rows<Sexp>, NoMemory>
 {
     let mut parts = Rows::new(alloc);
     add(alloc, &mut parts, ":PID", Sexp::Int(0))?;
-    add(alloc, &mut parts, ":STYLE", symbol(alloc, ":SPAWN")?)?;
+    add(alloc, &mut parts, ":STYLE", Sexp::symbol(alloc, ":SPAWN")?)?;
     add(alloc, &mut parts, ":ENCODING", encoding(alloc)?)?;
     let implementation = implementation(alloc)?;
     add(alloc, &mut parts, ":LISP-IMPLEMENTATION", implementation)?;
@@ -74,10 +79,10 @@ pub fn info(alloc: Global, name: &str, prompt: &str) -> Result<Sexp, NoMemory>
     ensures { IfOk result (λ x. x ≡ spec.info name.now prompt.now) }
 {
     let mut parts = about_server(alloc)?;
-    add(alloc, &mut parts, ":FEATURES", nil(alloc))?;
-    add(alloc, &mut parts, ":MODULES", nil(alloc))?;
+    add(alloc, &mut parts, ":FEATURES", Sexp::nil(alloc))?;
+    add(alloc, &mut parts, ":MODULES", Sexp::nil(alloc))?;
     let package = package_line(alloc, name, prompt)?;
     add(alloc, &mut parts, ":PACKAGE", package)?;
-    add(alloc, &mut parts, ":VERSION", string(alloc, "2.28")?)?;
+    add(alloc, &mut parts, ":VERSION", Sexp::string(alloc, "2.28")?)?;
     Ok(Sexp::List(parts))
 }

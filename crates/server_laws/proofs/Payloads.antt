@@ -3,11 +3,12 @@ use mir.Syntax.{w64}
 use Rattle.std.proofs.Common.{ℕ, ℤ, Bool, true, false, if◌then◌else◌, List, [], ◌∷◌, ◌++◌, codes, sym, subst, arith}
 use Rattle.std.specs.Prelude.{FitsSigned, Option, Some, None}
 use Rattle.inlet.specs.Messages.{AreMessagesOf, IsMessageOf, is_form, is_no_form, is_no_text, message_or_unknown, next, none}
+use Rattle.lisp_data.specs.Parts.{form_text}
 use Rattle.lisp_data.specs.declared.sexp.Sexp.{Sexp, out-Sexp}
 use Rattle.lisp_data.specs.declared.sexp.Sexp.TheOpen.{Sexp-F}
 use Rattle.lisp_data.specs.declared.sexp.Sexp.TheVariants as form
 use Rattle.lisp_data.specs.declared.sexp.Sexp.TheVariants.{outs-Int, outs-List, outs-Str, outs-Sym}
-use Rattle.rpc_messages.specs.Incoming.{integer_in, interrupt_in, interrupt_of, is_symbol, message_at, message_in, message_in_open, natural_in, package_in, return_in, return_of, return_string_in, return_string_of, rex_in, rex_of, standing_in, string_in, thread_in}
+use Rattle.rpc_messages.specs.Incoming.{integer_in, interrupt_in, interrupt_of, is_symbol, message_at, message_in, message_in_open, natural_in, package_in, return_in, return_of, return_string_in, return_string_of, rex_in, rex_of, standing_in, thread_in}
 use Rattle.rpc_messages.specs.declared.from_emacs.FromEmacs.{FromEmacs}
 use Rattle.rpc_messages.specs.declared.from_emacs.ThreadName.{ThreadName}
 use Rattle.sexp_reader.specs.Grammar as g
@@ -106,7 +107,7 @@ string-small : (parts : List Sexp) → SmallIf (return_string_in parts)
 string-small [] = tt
 string-small (_ ∷ []) = tt
 string-small (_ ∷ _ ∷ []) = tt
-string-small (t ∷ tag ∷ text ∷ _) = string_of-small (standing_in (out-Sexp t)) (natural_in (out-Sexp tag)) (string_in (out-Sexp text))
+string-small (t ∷ tag ∷ text ∷ _) = string_of-small (standing_in (out-Sexp t)) (natural_in (out-Sexp tag)) (form_text text)
 
 return_of-small : (n : Option ThreadName) (tag : Option ℕ) (x : Sexp) → SmallIf (return_of n tag x)
 return_of-small None tag x = tt

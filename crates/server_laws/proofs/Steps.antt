@@ -15,9 +15,9 @@ use Rattle.rpc_messages.specs.declared.from_emacs.FromEmacs.TheVariants as mail
 use Rattle.rpc_messages.specs.declared.pattern.Pattern.{Pattern}
 use Rattle.rpc_messages.specs.declared.to_emacs.ToEmacs.{ToEmacs}
 use Rattle.sexp_reader.specs.declared.placed.Placed.{Placed}
-use Rattle.syntax_rows.specs.Parsing.{parsed}
+use Rattle.lisp_syntax.specs.Parsing.{parsed}
 use Rattle.syntax_trees.specs.declared.ast.Ast.{Ast}
-use Rattle.syntax_trees.specs.declared.ast.Ast.TheViews.{out-Ast}
+use Rattle.syntax_trees.specs.Places.{row_of}
 use Rattle.term_model.proofs.Messages.{messages_in-append}
 use Rattle.term_model.specs.declared.focus.Focus.{Focus}
 use Rattle.term_model.specs.declared.focus.Focus.TheVariants as focus
@@ -37,6 +37,7 @@ use Rattle.term_model.specs.Term.{Context}
 use Rattle.step_model.specs.Act as act
 use Rattle.step_model.specs.Act.{Act}
 use Rattle.step_model.specs.CurrentPackage.{binds_package, bound_package}
+use Rattle.step_model.specs.Decision.{decided}
 use Rattle.step_model.specs.Functions.{with_tree}
 use Rattle.step_model.specs.Kinds.{current, or_refuse}
 use Rattle.step_model.specs.Now.{Mailbox, Now, around, puts, tells}
@@ -44,7 +45,7 @@ use Rattle.step_model.specs.Perform.{answer_in, exits, given, gives, gives_in, g
 use Rattle.step_model.specs.Requests.{asked, before_forms, commanded, finished, forms_row, placed_found, resolved}
 use Rattle.step_model.specs.Rules.{Writing, Output, NewPackage}
 use Rattle.step_model.specs.Step.{begun, is_built, is_form_built, is_row_built, raises, step}
-use Rattle.step_model.specs.Table.{given_alone, given_row, or_shared, row}
+use Rattle.step_model.specs.Table.{given_row, row}
 use Rattle.swank_rpc.specs.Commands.{Given, Replies, RepliesIn, Refuses, Evaluates, called, command_of}
 use Rattle.swank_rpc.specs.Finishes.{Ended, ended, finish_of}
 use Rattle.server_rules.specs.Going.{entered, laid_in}
@@ -275,9 +276,9 @@ before_fit [] origin = tt
 before_fit (p ∷ ps) origin = (tt, tt)
 
 tree_fits : (n : Now) (tree : Result Ast Value) (p : Placed) (ps : List Placed) (origin : Option Origin)
-    → raises (with_tree n tree (λ e. act.Goes (before_forms ps origin) (placed_found e (out-Ast e) origin p.at))) ≡ false
-    → ActFits (with_tree n tree (λ e. act.Goes (before_forms ps origin) (placed_found e (out-Ast e) origin p.at)))
-tree_fits n (Ok e) p ps origin r = (before_fit ps origin, placed_simple e (out-Ast e) origin p.at)
+    → raises (with_tree n tree (λ e. act.Goes (before_forms ps origin) (placed_found e (row_of e) origin p.at))) ≡ false
+    → ActFits (with_tree n tree (λ e. act.Goes (before_forms ps origin) (placed_found e (row_of e) origin p.at)))
+tree_fits n (Ok e) p ps origin r = (before_fit ps origin, placed_simple e (row_of e) origin p.at)
 tree_fits n (Err bad) p ps origin r = absurd (true≢false r)
 
 resolved_fits : (n : Now) (p : Placed) (ps : List Placed) (origin : Option Origin) (named : Result (List Package × Value) NameFault)
@@ -293,7 +294,7 @@ forms_fit n (p ∷ ps) origin h r =
     (in_named_short packages (current n) (λ i. valued i p.form packages) (λ i. valued_short i p.form packages h)) r
 
 outcome_row : (n : Now) (c : Context) (o : Outcome) → HasShortNames n.image → LayersFit c → OutcomeFits o → is_form_built c (focus.Given o) ≡ true
-    → raises (or_shared (given_alone c o) (given_row rules n c o)) ≡ false → ActFits (or_shared (given_alone c o) (given_row rules n c o))
+    → raises (decided n (given_row rules c o)) ≡ false → ActFits (decided n (given_row rules c o))
 outcome_row n [] o h g k e r = absurd (false≢true e)
 outcome_row n (frame.On (plain.Before f) ∷ c) o h g k e r = g.0
 outcome_row n (frame.On (plain.Answer kept) ∷ c) (outcome.Value v) h g k e r =

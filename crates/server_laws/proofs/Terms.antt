@@ -18,7 +18,7 @@ use Rattle.term_model.specs.Room.{Entered, enter, room, wrap}
 use Rattle.term_model.specs.Term.{Context}
 use Rattle.server_rules.specs.Going.{entered}
 use Rattle.server_rules.specs.Simple.{are_simple, has_no_restarts}
-use Rattle.server_rules.proofs.GoingSimple.{IsSimpleFound, is_form_layer, is_no_outcome, look_simple}
+use Rattle.server_rules.proofs.GoingSimple.{IsSimpleFound, is_no_outcome, look_simple}
 use Rattle.server_laws.proofs.Messages.{IsShortReply}
 
 abbrev pub OutcomeFits : Outcome → Type 0
@@ -59,11 +59,6 @@ layers_simple (frame.Ask kind tag ∷ c) h = absurd h.0
 
 -- ---- going in
 
-form_layer : (p : Plain) → is_form_layer p ≡ true → PlainFits p
-form_layer (plain.Before f) h = absurd (false≢true h)
-form_layer (plain.Restarts offers) h = absurd (false≢true h)
-form_layer p h = tt
-
 no_outcome : (f : Focus) → is_no_outcome f ≡ true → RedexFits f
 no_outcome (focus.Given o) h = absurd (false≢true h)
 no_outcome f h = tt
@@ -84,7 +79,7 @@ enter_fits : (space : ℕ) (c : Context) (found : Found) → LayersFit c → IsS
 enter_fits space c (Already v) h k = record { around = h; redex = tt }
 enter_fits space c (Here f) h k = record { around = h; redex = no_outcome f k }
 enter_fits zero c (Inside p e) h k = record { around = h; redex = tt }
-enter_fits (suc space) c (Inside p e) h k = enter_fits space (frame.On p ∷ c) (look e) (form_layer p k, h) (look_simple e)
+enter_fits (suc space) c (Inside p e) h k = enter_fits space (frame.On (plain.Form p) ∷ c) (look e) (tt, h) (look_simple e)
 
 wrap_fits : (space : ℕ) (c : Context) (ps : List Plain) (found : Found) → LayersFit c → PlainsFit ps → IsSimpleFound found → EnteredFits (wrap space c ps found)
 wrap_fits space c [] found h g k = enter_fits space c found h k

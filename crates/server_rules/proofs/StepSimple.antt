@@ -7,10 +7,11 @@ use Rattle.lisp_packages.specs.Naming.{in_named, valued}
 use Rattle.lisp_packages.specs.declared.fault.NameFault.{NameFault}
 use Rattle.lisp_packages.specs.declared.lisp_package.Package.{Package}
 use Rattle.sexp_reader.specs.declared.placed.Placed.{Placed}
-use Rattle.syntax_rows.specs.Parsing.{parsed}
+use Rattle.lisp_syntax.specs.Parsing.{parsed}
 use Rattle.syntax_trees.specs.declared.ast.Ast.{Ast}
-use Rattle.syntax_trees.specs.declared.ast.Ast.TheOpen.{Ast-F}
-use Rattle.syntax_trees.specs.declared.ast.Ast.TheViews.{out-Ast}
+use Rattle.syntax_trees.specs.Places.{row_of}
+use Rattle.syntax_trees.specs.declared.row.Row.{Row}
+use Rattle.syntax_trees.specs.declared.row.Row.TheVariants as tree
 use Rattle.term_model.specs.declared.focus.Focus.{Focus}
 use Rattle.term_model.specs.declared.focus.Focus.TheVariants as focus
 use Rattle.term_model.specs.declared.focus.Origin.{Origin}
@@ -21,6 +22,7 @@ use Rattle.term_model.specs.declared.plain.Plain.TheVariants as plain
 use Rattle.term_model.specs.Restarts.{Leaving, abort_exit}
 use Rattle.term_model.specs.Term.{Context}
 use Rattle.step_model.specs.Act.{Exits, Goes}
+use Rattle.step_model.specs.Decision.{decided}
 use Rattle.step_model.specs.Functions.{with_tree}
 use Rattle.step_model.specs.Kinds.{current, or_refuse}
 use Rattle.step_model.specs.Now.{Now, around}
@@ -28,7 +30,7 @@ use Rattle.step_model.specs.Perform.{exits, perform}
 use Rattle.step_model.specs.Requests.{asked, before_forms, commanded, finished, forms_row, placed_found, resolved}
 use Rattle.step_model.specs.Step.{act_if, begun, is_built, is_form_built, is_row_built, raises, step}
 use Rattle.step_model.specs.Step as the_step
-use Rattle.step_model.specs.Table.{given_alone, given_row, or_shared, row}
+use Rattle.step_model.specs.Table.{given_row, row}
 use Rattle.swank_rpc.specs.Commands.{Given, Replies, RepliesIn, Refuses, Evaluates, called, command_of}
 use Rattle.swank_rpc.specs.Finishes.{Ended, ended, finish_of}
 use Rattle.server_rules.specs.Leaving.{left}
@@ -57,14 +59,14 @@ before_plain [] origin = tt
 before_plain (p ∷ ps) origin = (refl, tt)
 
 -- the form of a text, with its place where it defines a function
-pub placed_simple : (a : Ast) (x : Ast-F Ast) (origin : Option Origin) (at : ℕ) → IsSimpleFound (placed_found a x origin at)
-placed_simple a (Ast-F.Defun g ps es) (Some origin) at = refl
+pub placed_simple : (a : Ast) (x : Row) (origin : Option Origin) (at : ℕ) → IsSimpleFound (placed_found a x origin at)
+placed_simple a (tree.Defun g ps) (Some origin) at = refl
 placed_simple a x origin at = look_simple a
 
 tree_simple : (n : Now) (tree : Result Ast Value) (p : Placed) (ps : List Placed) (origin : Option Origin) (vs : List Value)
-    → raises (with_tree n tree (λ e. Goes (before_forms ps origin) (placed_found e (out-Ast e) origin p.at))) ≡ false
-    → IsSimpleAct vs (with_tree n tree (λ e. Goes (before_forms ps origin) (placed_found e (out-Ast e) origin p.at)))
-tree_simple n (Ok e) p ps origin vs r = (before_plain ps origin, placed_simple e (out-Ast e) origin p.at)
+    → raises (with_tree n tree (λ e. Goes (before_forms ps origin) (placed_found e (row_of e) origin p.at))) ≡ false
+    → IsSimpleAct vs (with_tree n tree (λ e. Goes (before_forms ps origin) (placed_found e (row_of e) origin p.at)))
+tree_simple n (Ok e) p ps origin vs r = (before_plain ps origin, placed_simple e (row_of e) origin p.at)
 tree_simple n (Err bad) p ps origin vs r = absurd (true≢false r)
 
 resolved_simple : (n : Now) (p : Placed) (ps : List Placed) (origin : Option Origin) (named : Result (List Package × Value) NameFault)
@@ -78,7 +80,7 @@ forms_simple n (p ∷ ps) origin r = resolved_simple n p ps origin (in_named n.i
 
 -- an outcome
 given_simple : (n : Now) (c : Context) (o : Outcome) → is_form_built c (focus.Given o) ≡ true
-    → raises (or_shared (given_alone c o) (given_row rules n c o)) ≡ false → IsSimpleAct n.inspected (or_shared (given_alone c o) (given_row rules n c o))
+    → raises (decided n (given_row rules c o)) ≡ false → IsSimpleAct n.inspected (decided n (given_row rules c o))
 given_simple n [] o e r = absurd (false≢true e)
 given_simple n (frame.On (plain.Answer kept) ∷ c) (outcome.Value v) e r =
     let a = asked (around n c) in finished_simple (around n c) v (ended a.form kept v a.current a.image) r

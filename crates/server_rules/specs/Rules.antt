@@ -4,7 +4,7 @@ use Rattle.step_model.specs.Rules.{Rules}
 use Rattle.swank_rpc.specs.Calls as call
 use Rattle.swank_rpc.specs.Commands as command
 use Rattle.swank_rpc.specs.Finishes as finish
-use Rattle.syntax_rows.specs.Parsing.{parsed}
+use Rattle.lisp_syntax.specs.Parsing.{parsed}
 
 -- what no row asks for that is built is left out: functions with one step, control texts and `defpackage`
 abbrev pub rules : Rules

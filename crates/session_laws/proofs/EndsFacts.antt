@@ -12,8 +12,6 @@ use Rattle.rpc_messages.specs.declared.from_emacs.FromEmacs.TheVariants as mail
 use Rattle.rpc_messages.specs.declared.pattern.Pattern.{Pattern}
 use Rattle.rpc_messages.specs.declared.pattern.Pattern.TheVariants as pattern
 use Rattle.syntax_trees.specs.declared.ast.Ast.{Ast}
-use Rattle.syntax_trees.specs.declared.ast.Ast.TheViews.{out-Ast}
-use Rattle.syntax_trees.specs.declared.ast.HandlerClause.{HandlerClause}
 use Rattle.term_model.specs.declared.focus.Focus.{Focus}
 use Rattle.term_model.specs.declared.focus.Focus.TheVariants as focus
 use Rattle.term_model.specs.declared.found.Found.{Found}
@@ -43,7 +41,8 @@ use Rattle.term_model.specs.declared.restart.Offer.{Offer}
 use Rattle.term_model.specs.Breaks.{may_open}
 use Rattle.term_model.specs.Exit.{distance, dropped, leave}
 use Rattle.term_model.specs.Label.{Label, Routed, Took, Ended, Swept, Refused, Out, Opened, Closed, Cleanup, Broke}
-use Rattle.term_model.specs.GoingIn.{body, look, nil, resumed, value_in}
+use Rattle.lisp_data.specs.Parts.{nil}
+use Rattle.term_model.specs.GoingIn.{body, look, resumed, value_in}
 use Rattle.term_model.specs.Restarts.{abort_exit}
 use Rattle.term_model.specs.Room.{is_within, levels, room, wrap}
 use Rattle.term_model.specs.Search.{layer_at}
@@ -53,7 +52,7 @@ use Rattle.step_model.specs.Act as act
 use Rattle.step_model.specs.Act.{Act}
 use Rattle.step_model.specs.CurrentPackage.{binds_package, bound_package}
 use Rattle.step_model.specs.Now.{Now, around, tells}
-use Rattle.step_model.specs.Perform.{outcome_of, asking, continuing, interrupted, opens, after_leaving, answer_in, asks, assigns, assigns_or, breaks_if, brings, calls_again, condition_bound, cut_off, enters_if, exhausted_if, exits, finishes, given, gives, gives_in, goes, laid, lands, lays, lays_if, outward, package_bound, parameters_bound, passes, perform, protects, protects_value, runs_action, runs_clause, runs_handler, runs_offer, sets, sets_or, takes, took, turned, written}
+use Rattle.step_model.specs.Perform.{outcome_of, asking, continuing, interrupted, opens, after_leaving, answer_in, asks, assigns, assigns_or, breaks_if, brings, calls_again, cut_off, enters_if, exhausted_if, exits, finishes, given, gives, gives_in, goes, laid, lands, lays, lays_if, outward, package_bound, passes, perform, protects, protects_value, runs_action, runs_clause, runs_handler, runs_offer, sets, sets_or, takes, took, turned, written}
 use Rattle.step_model.specs.Rules.{Rules, Writing, Output, NewPackage}
 use Rattle.step_model.specs.Step as the_step
 use Rattle.step_model.specs.Step.{announced_at}
@@ -149,13 +148,13 @@ goes_says g n (p ∷ ps) found h = lays_says g n (p ∷ ps) found h
 
 -- ---- exits
 
-runs_handler_says : (g : Focus) (n : Now) (clause : Option (HandlerClause Ast)) (vs : List Value) → Says g n → Says g (runs_handler n clause vs)
+runs_handler_says : (g : Focus) (n : Now) (clause : Option Ast) (vs : List Value) → Says g n → Says g (runs_handler n clause vs)
 runs_handler_says g n None vs h = goes_says g n [] (Already nil) h
-runs_handler_says g n (Some clause) vs h = goes_says g n (condition_bound clause.variable vs) (body clause.body) h
+runs_handler_says g n (Some clause) vs h = goes_says g n _ _ h
 
 runs_action_says : (g : Focus) (n : Now) (action : Action) (vs : List Value) → Says g n → Says g (runs_action n action vs)
 runs_action_says g n (Give o) vs h = gives_says g n o h
-runs_action_says g n (Run parameters es) vs h = goes_says g n (parameters_bound parameters vs) (body es) h
+runs_action_says g n (Run clause) vs h = goes_says g n _ _ h
 
 runs_offer_says : (g : Focus) (n : Now) (offer : Option Offer) (vs : List Value) → Says g n → Says g (runs_offer n offer vs)
 runs_offer_says g n None vs h = goes_says g n [] (Already nil) h
@@ -216,7 +215,7 @@ protects_value_says g n (Some v) cleanup h = h
 protects_value_says g n None cleanup h = exhausted_says g n (may_open n.context) h
 
 protects_says : (g : Focus) (n : Now) (space : ℕ) (e : Ast) (cleanup : List Ast) → Says g n → Says g (protects n space e cleanup)
-protects_says g n zero e cleanup h = protects_value_says g n (value_in (out-Ast e)) cleanup h
+protects_says g n zero e cleanup h = protects_value_says g n (value_in e) cleanup h
 protects_says g n (suc space) e cleanup h =
     goes_says g (around (record n { serial = n.serial + 1 }) (frame.Protect n.serial cleanup ∷ n.context)) [] (look e) h
 

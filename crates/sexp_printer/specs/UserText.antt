@@ -8,7 +8,7 @@ use Rattle.lisp_data.specs.declared.type_id.TypeId.{TypeId}
 use Rattle.lisp_data.specs.declared.value.Value.{Value}
 use Rattle.lisp_data.specs.declared.value.Value.TheOpen.{Condition-F, Value-F}
 use Rattle.lisp_data.specs.declared.value.Value.TheFolds.{fold-Value}
-use Rattle.lisp_types.specs.Types.{name_of}
+use Rattle.lisp_data.specs.TypeNames.{name_of}
 use Rattle.sexp_printer.specs.Printed.{quoted, in_parentheses}
 
 -- whether a symbol prints by its name alone: one whose home is COMMON-LISP or the current package

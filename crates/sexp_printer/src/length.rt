@@ -7,7 +7,6 @@ ghost use Rattle.sexp_printer.specs.UserText.{symbol_text, string_text, conditio
 use crate::value::is_bare;
 use itoa::Buffer;
 use lisp_data::{Condition, Symbol, Text, Value};
-use lisp_types::name_of;
 
 fn integer_length(number: i64) -> u64
     ensures { result ≡ length (signed_decimal number) }
@@ -39,7 +38,7 @@ fn symbol_length(current: &str, symbol: &Symbol) -> u64
 {
     let home = symbol.home.as_str();
     let name = symbol.name.len() as u64;
-    if home == "KEYWORD" {
+    if symbol.is_keyword() {
         return name.saturating_add(1);
     }
     if is_bare(home, current) {
@@ -55,7 +54,7 @@ fn condition_length(escape: bool, condition: &Condition) -> u64
     if !escape {
         return message.len() as u64;
     }
-    (name_of(condition.kind).len() as u64)
+    (condition.kind.name().len() as u64)
         .saturating_add(4)
         .saturating_add(quoted_length(message))
 }

@@ -3,7 +3,6 @@ ghost use Rattle.sexp_printer.specs.UserText.{is_bare, symbol_text, string_text,
 
 use crate::piece::{write_integer, write_quoted};
 use lisp_data::{Condition, NoMemory, Symbol, Text, Value};
-use lisp_types::name_of;
 use std::alloc::Global;
 
 /// Whether a symbol with this home prints by its name alone.
@@ -18,7 +17,7 @@ fn write_symbol(out: &mut Text, current: &str, symbol: &Symbol) -> Result<(), No
 {
     let home = symbol.home.as_str();
     let name = symbol.name.as_str();
-    if home == "KEYWORD" {
+    if symbol.is_keyword() {
         out.push(':')?;
         return out.push_str(name);
     }
@@ -38,7 +37,7 @@ fn write_condition(out: &mut Text, escape: bool, condition: &Condition) -> Resul
         return out.push_str(message);
     }
     out.push_str("#<")?;
-    out.push_str(name_of(condition.kind))?;
+    out.push_str(condition.kind.name())?;
     out.push(' ')?;
     write_quoted(out, message)?;
     out.push('>')

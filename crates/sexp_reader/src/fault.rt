@@ -1,3 +1,6 @@
+ghost use Rattle.std.specs.Prelude.{◌≡◌};
+ghost use Rattle.sexp_reader.specs.Names.{fault_name};
+
 use lisp_data::NoMemory;
 
 /// Why a text is no form. The first place from the left decides.
@@ -19,6 +22,24 @@ pub enum ReadFault {
     TrailingText,
     /// Want of memory.
     NoMemory,
+}
+
+impl ReadFault {
+    /// The name of a fault, by which clients and users are told of it.
+    pub fn name(self) -> &'static str
+        ensures { result.now ≡ fault_name self }
+    {
+        match self {
+            ReadFault::End => "End",
+            ReadFault::Unclosed => "Unclosed",
+            ReadFault::StrayClose => "StrayClose",
+            ReadFault::BadToken => "BadToken",
+            ReadFault::TooDeep => "TooDeep",
+            ReadFault::NumberTooWide => "NumberTooWide",
+            ReadFault::TrailingText => "TrailingText",
+            ReadFault::NoMemory => "NoMemory",
+        }
+    }
 }
 
 impl From<NoMemory> for ReadFault {

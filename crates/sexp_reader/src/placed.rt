@@ -1,7 +1,7 @@
 use lisp_data::Sexp;
 
 /// A form of a text, and how many characters of the text stand before it.
-#[derive(Debug, Drop)]
+#[derive(Drop)]
 pub struct Placed {
     pub form: Sexp,
     pub at: u64,

@@ -10,7 +10,7 @@ use Rattle.term_model.specs.declared.plain.Plain.TheVariants as plain
 use Rattle.term_model.specs.Breaks.{may_open, max_levels}
 use Rattle.term_model.specs.Exit.{again, stir}
 use Rattle.term_model.specs.Room.{levels}
-use Rattle.lisp_sequences.specs.Same.{same_symbol}
+use Rattle.lisp_data.specs.Same.{same_symbol}
 use Rattle.term_model.specs.Search as sight
 use Rattle.term_model.specs.Search.{Sight, changed, changed_by}
 use Rattle.term_model.specs.Term.{Context}

@@ -4,7 +4,6 @@ use Rattle.std.specs.Prelude.{option_map, slice_get}
 use Rattle.std.proofs.lemmas.Bool.{false≢true}
 use Rattle.lisp_data.specs.declared.value.Value.{Value}
 use Rattle.syntax_trees.specs.declared.ast.Ast.{Ast}
-use Rattle.syntax_trees.specs.declared.ast.HandlerClause.{HandlerClause}
 use Rattle.term_model.specs.declared.focus.Focus.{Focus}
 use Rattle.term_model.specs.declared.focus.Focus.TheVariants as focus
 use Rattle.term_model.specs.declared.found.Found.TheVariants.{Already, Here}
@@ -20,13 +19,14 @@ use Rattle.term_model.specs.declared.restart.Action.{Action}
 use Rattle.term_model.specs.declared.restart.Action.TheVariants.{Give, Run}
 use Rattle.term_model.specs.declared.restart.Offer.{Offer}
 use Rattle.term_model.specs.Exit.{distance, leave, stir}
-use Rattle.term_model.specs.GoingIn.{body, nil}
+use Rattle.lisp_data.specs.Parts.{nil}
+use Rattle.term_model.specs.GoingIn.{body}
 use Rattle.term_model.specs.Room.{layers, levels, limit}
 use Rattle.term_model.specs.Search.{layer_at}
 use Rattle.term_model.specs.Term.{Context}
 use Rattle.step_model.specs.Facts.{HasClauses, IsCall, IsRequest, TakesValue, TargetFits, bare, bares}
 use Rattle.step_model.specs.Now.{Now}
-use Rattle.step_model.specs.Perform.{after_leaving, brings, calls_again, condition_bound, exits, goes, lands, parameters_bound, runs_action, runs_clause, runs_handler, runs_offer}
+use Rattle.step_model.specs.Perform.{after_leaving, brings, calls_again, exits, goes, lands, runs_action, runs_clause, runs_handler, runs_offer}
 use Rattle.step_model.specs.Rooms.{BrokenRoom, LayerRoom, LayersRoom, extra, is_giving, is_offering, number_if}
 use Rattle.step_model.proofs.BareLemmas.{bares-stir, length-bares}
 use Rattle.step_model.proofs.RoomLemmas.{Roomy, cushion, gives_room, goes_room, limit-least}
@@ -182,16 +182,16 @@ leave_room t target (suc d) b o (frame.Ask kind tag ∷ c) e h g k =
 
 -- ---- landing
 
-handler_room : (n : Now) (clause : Option (HandlerClause Ast)) (vs : List Value) → LayersRoom (bares n.context) → layers (bares n.context) ≤ limit (levels (bares n.context)) → Roomy (runs_handler n clause vs)
+handler_room : (n : Now) (clause : Option Ast) (vs : List Value) → LayersRoom (bares n.context) → layers (bares n.context) ≤ limit (levels (bares n.context)) → Roomy (runs_handler n clause vs)
 handler_room n None vs h g = goes_room n [] (Already nil) h (omega arith)
-handler_room n (Some clause) vs h g = goes_room n (condition_bound clause.variable vs) (body clause.body) h (omega arith)
+handler_room n (Some clause) vs h g = goes_room n _ _ h (omega arith)
 
 nil_room : (n : Now) → LayersRoom (bares n.context) → layers (bares n.context) ≤ limit (levels (bares n.context)) + 1 → Roomy (goes n [] (Already nil))
 nil_room n h g = gives_room n (outcome.Value nil) h g
 
 action_room : (n : Now) (a : Action) (vs : List Value) → LayersRoom (bares n.context) → layers (bares n.context) ≤ limit (levels (bares n.context)) + number_if 1 (is_giving a) → Roomy (runs_action n a vs)
 action_room n (Give o) vs h g = gives_room n o h g
-action_room n (Run parameters es) vs h g = goes_room n (parameters_bound parameters vs) (body es) h (omega arith)
+action_room n (Run clause) vs h g = goes_room n _ _ h (omega arith)
 
 abbrev offer_spare : Option Offer → ℕ
 offer_spare None = 1

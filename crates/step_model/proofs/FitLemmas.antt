@@ -1,19 +1,14 @@
 -- What going in, giving and opening leave fits.
-use Rattle.std.proofs.Common.{◌≡◌, ℕ, zero, suc, Bool, true, false, List, [], ◌∷◌, ◌++◌, Option, Some, None, refl, sym, ◌∙◌}
+use Rattle.std.proofs.Common.{◌≡◌, ℕ, zero, suc, ◌+◌, ◌-◌, Bool, true, false, List, [], ◌∷◌, ◌++◌, length, Option, Some, None, refl, sym, ◌∙◌}
 use Rattle.std.proofs.lemmas.Bool.{false≢true}
-use Rattle.lisp_data.specs.declared.symbol.Symbol.{Symbol}
 use Rattle.lisp_data.specs.declared.value.Value.{Value}
 use Rattle.lisp_data.specs.declared.value.Condition.{Condition}
 use Rattle.lisp_errors.specs.Causes.{stack_exhausted}
-use Rattle.syntax_trees.specs.declared.ast.Assignment.{Assignment}
+use Rattle.syntax_trees.specs.Places.{forms_of, row_of}
 use Rattle.syntax_trees.specs.declared.ast.Ast.{Ast}
-use Rattle.syntax_trees.specs.declared.ast.Ast.TheOpen.{Ast-F}
-use Rattle.syntax_trees.specs.declared.ast.Ast.TheViews.{out-Ast}
-use Rattle.syntax_trees.specs.declared.ast.Binding.{Binding}
-use Rattle.syntax_trees.specs.declared.ast.Handler.{Handler}
-use Rattle.syntax_trees.specs.declared.ast.Init.{Init}
-use Rattle.syntax_trees.specs.declared.ast.Init.TheVariants.{Bare, Empty, Form}
-use Rattle.term_model.specs.declared.focus.Bound.{Bound}
+use Rattle.syntax_trees.specs.declared.row.Bare.TheVariants as bare
+use Rattle.syntax_trees.specs.declared.row.Row.{Row}
+use Rattle.syntax_trees.specs.declared.row.Row.TheVariants as row
 use Rattle.term_model.specs.declared.focus.Focus.{Focus}
 use Rattle.term_model.specs.declared.focus.Focus.TheVariants as focus
 use Rattle.term_model.specs.declared.found.Found.{Found}
@@ -25,8 +20,8 @@ use Rattle.term_model.specs.declared.kept.Saved.TheVariants as saved
 use Rattle.term_model.specs.declared.plain.Plain.{Plain}
 use Rattle.term_model.specs.declared.plain.Plain.TheVariants as plain
 use Rattle.term_model.specs.Breaks.{may_open}
-use Rattle.term_model.specs.GoingIn
-use Rattle.term_model.specs.GoingIn.{arguments, bound_to, body, evaluated, found_in, handler_of, handler_values, initial, let_values, look, nil, part, restart_arguments, resumed, returned, value_in}
+use Rattle.term_model.specs.GoingIn.{advanced, body, cond, continued, first_part, found, look, needs, part, resumed, tested, value_in}
+use Rattle.term_model.specs.Progress.{Progress, progress}
 use Rattle.term_model.specs.Room.{enter, is_within, room, wrap}
 use Rattle.term_model.specs.Term.{Context}
 use Rattle.step_model.specs.Facts.{FocusFits, IsSound, LayerFits, LayersFit, bare_plain, bares, waits}
@@ -57,7 +52,7 @@ plain_layer _ = true
 abbrev pub FoundFits : Found → Type 0
 FoundFits (Here f) = plain_focus f ≡ true
 FoundFits (Already v) = Unit {0}
-FoundFits (Inside p e) = plain_layer p ≡ true
+FoundFits (Inside p e) = Unit {0}
 
 pub focus_fits : (f : Focus) (d : Context) → plain_focus f ≡ true → waits d ≡ false → FocusFits f d
 focus_fits (focus.Wait p) d e w = absurd (false≢true e)
@@ -83,99 +78,41 @@ inside p d h place = record { layers = (busy_on p d h place.busy, place.layers);
 
 -- ---- going into forms
 
-part_fits : (o : Option Value) (p : Plain) (e : Ast) (go : Value → Found) → plain_layer p ≡ true → ((v : Value) → FoundFits (go v)) → FoundFits (part o p e go)
-part_fits None p e go h k = h
-part_fits (Some v) p e go h k = k v
+part_fits : (o : Option Value) (go : Value → Found) (inside : Found) → FoundFits inside → ((v : Value) → FoundFits (go v)) → FoundFits (part o go inside)
+part_fits None go inside h k = h
+part_fits (Some v) go inside h k = k v
 
-evaluated_fits : (e : Ast) (p : Plain) (go : Value → Found) → plain_layer p ≡ true → ((v : Value) → FoundFits (go v)) → FoundFits (evaluated e p go)
-evaluated_fits e p go h k = part_fits (value_in (out-Ast e)) p e go h k
+pub found_fits : (k : ℕ) (r : Row) (n : ℕ) (vs : List Value) (es : List Ast) → FoundFits (found k r n vs es)
+found_fits zero r n vs es = refl
+found_fits (suc k) r n vs [] = refl
+found_fits (suc k) r n vs (e ∷ es) =
+    part_fits (value_in e) (λ v. found k r (n + 1) (vs ++ v ∷ []) es) (Inside (progress r (n + 1) vs es) e) tt (λ v. found_fits k r (n + 1) (vs ++ v ∷ []) es)
 
-arguments_fits : (g : Symbol) (vs : List Value) (es : List Ast) → FoundFits (arguments g vs es)
-arguments_fits g vs [] = refl
-arguments_fits g vs (e ∷ es) = evaluated_fits e (plain.Arguments g vs es) (λ v. arguments g (vs ++ v ∷ []) es) refl (λ v. arguments_fits g (vs ++ v ∷ []) es)
+tested_fits : (n : ℕ) (cs es : List Ast) → FoundFits (tested n cs es)
+tested_fits n cs [] = refl
+tested_fits n cs (e ∷ es) = part_fits (value_in e) _ (Inside (progress (row.Bare bare.Cond) n [] cs) e) tt (λ v. refl)
 
-initial_fits : (i : Init Ast) (p : Plain) (go : Value → Found) → plain_layer p ≡ true → ((v : Value) → FoundFits (go v)) → FoundFits (initial i p go)
-initial_fits Bare p go h k = k nil
-initial_fits Empty p go h k = k nil
-initial_fits (Form e) p go h k = evaluated_fits e p go h k
+pub cond_fits : (n : ℕ) (cs : List Ast) → FoundFits (cond n cs)
+cond_fits n [] = refl
+cond_fits n (c ∷ cs) = tested_fits n (c ∷ cs) (forms_of c)
 
-let_values_fits : (vs : List Bound) (bs : List (Binding Ast)) (es : List Ast) → FoundFits (let_values vs bs es)
-let_values_fits vs [] es = refl
-let_values_fits vs (b ∷ bs) es =
-    initial_fits b.init (plain.Let vs b.variable bs es) (λ v. let_values (vs ++ bound_to b.variable v ∷ []) bs es) refl (λ v. let_values_fits (vs ++ bound_to b.variable v ∷ []) bs es)
-
-handler_values_fits : (vs : List (Handler Value)) (hs : List (Handler Ast)) (es : List Ast) → FoundFits (handler_values vs hs es)
-handler_values_fits vs [] es = refl
-handler_values_fits vs (h ∷ hs) es =
-    evaluated_fits h.function (plain.HandlerBind vs h.kind hs es) (λ v. handler_values (vs ++ handler_of h.kind v ∷ []) hs es) refl (λ v. handler_values_fits (vs ++ handler_of h.kind v ∷ []) hs es)
-
-restart_arguments_fits : (name : Symbol) (control : List ℕ) (vs : List Value) (es body : List Ast) → FoundFits (restart_arguments name control vs es body)
-restart_arguments_fits name control vs [] body = refl
-restart_arguments_fits name control vs (e ∷ es) body =
-    evaluated_fits e (plain.WithSimpleRestart name control vs es body) (λ v. restart_arguments name control (vs ++ v ∷ []) es body) refl (λ v. restart_arguments_fits name control (vs ++ v ∷ []) es body)
-
-pub let_star_fits : (b : Binding Ast) (bs : List (Binding Ast)) (es : List Ast) → FoundFits (GoingIn.let_star b bs es)
-let_star_fits b bs es = initial_fits b.init (plain.LetStar b.variable bs es) (λ v. Here (focus.LetStar b.variable v bs es)) refl (λ v. refl)
-
-pub setq_fits : (p : Assignment Ast) (ps : List (Assignment Ast)) → FoundFits (GoingIn.setq p ps)
-setq_fits p ps = evaluated_fits p.value (plain.Setq p.variable ps) (λ v. Here (focus.Setq p.variable v ps)) refl (λ v. refl)
-
-thrown_fits : (tag : Value) (e : Ast) → FoundFits (GoingIn.thrown tag e)
-thrown_fits tag e = evaluated_fits e (plain.ThrowValue tag) (λ v. Here (focus.Throw tag v)) refl (λ v. refl)
-
-returned_fits : (name : Symbol) (e : Option Ast) → FoundFits (returned name e)
-returned_fits name None = refl
-returned_fits name (Some e) = evaluated_fits e (plain.ReturnFrom name) (λ v. Here (focus.ReturnFrom name v)) refl (λ v. refl)
-
-found_fits : (a : Ast) (x : Ast-F Ast) → FoundFits (found_in a x)
-found_fits a (Ast-F.If test chosen otherwise) = evaluated_fits test _ _ refl (λ v. refl)
-found_fits a (Ast-F.When test es) = evaluated_fits test _ _ refl (λ v. refl)
-found_fits a (Ast-F.Unless test es) = evaluated_fits test _ _ refl (λ v. refl)
-found_fits a (Ast-F.Cond (c ∷ cs)) = evaluated_fits c.test _ _ refl (λ v. refl)
-found_fits a (Ast-F.And (e ∷ es)) = evaluated_fits e _ _ refl (λ v. refl)
-found_fits a (Ast-F.Or (e ∷ es)) = evaluated_fits e _ _ refl (λ v. refl)
-found_fits a (Ast-F.Progn (e ∷ es)) = evaluated_fits e _ _ refl (λ v. refl)
-found_fits a (Ast-F.Let bindings es) = let_values_fits [] bindings es
-found_fits a (Ast-F.LetStar (b ∷ bs) es) = let_star_fits b bs es
-found_fits a (Ast-F.Setq (p ∷ ps)) = setq_fits p ps
-found_fits a (Ast-F.ReturnFrom name e) = returned_fits name e
-found_fits a (Ast-F.Return e) = returned_fits _ e
-found_fits a (Ast-F.Catch tag es) = evaluated_fits tag _ _ refl (λ v. refl)
-found_fits a (Ast-F.Throw tag e) = evaluated_fits tag (plain.ThrowTag e) (λ v. GoingIn.thrown v e) refl (λ v. thrown_fits v e)
-found_fits a (Ast-F.Defparameter x e) = evaluated_fits e _ _ refl (λ v. refl)
-found_fits a (Ast-F.HandlerBind handlers es) = handler_values_fits [] handlers es
-found_fits a (Ast-F.WithSimpleRestart name control es body) = restart_arguments_fits name control [] es body
-found_fits a (Ast-F.Call g es) = arguments_fits g [] es
-found_fits a (Ast-F.Literal v) = tt
-found_fits a (Ast-F.Quote v) = tt
-found_fits a (Ast-F.Function s) = tt
-found_fits a x = refl
+first_part_fits : (r : Row) (es : List Ast) → FoundFits (first_part r es)
+first_part_fits (row.Bare bare.Cond) es = cond_fits 0 es
+first_part_fits r es = found_fits (needs r (length es)) r 0 [] es
 
 pub look_fits : (a : Ast) → FoundFits (look a)
-look_fits a = found_fits a (out-Ast a)
+look_fits a = part_fits (value_in a) Already (first_part (row_of a) (forms_of a)) (first_part_fits (row_of a) (forms_of a)) (λ v. tt)
 
 pub body_fits : (es : List Ast) → FoundFits (body es)
 body_fits [] = tt
 body_fits (e ∷ []) = look_fits e
-body_fits (e ∷ f ∷ es) = evaluated_fits e _ _ refl (λ v. refl)
+body_fits (e ∷ f ∷ es) = found_fits 1 (row.Bare bare.Progn) 0 [] (e ∷ f ∷ es)
 
-pub counting_fits : (x : Symbol) (e : Ast) (es : List Ast) → FoundFits (GoingIn.counting x e es)
-counting_fits x e es = evaluated_fits e _ _ refl (λ v. refl)
+pub advanced_fits : (p : Progress) → FoundFits (advanced p)
+advanced_fits p = found_fits 1 p.row p.done [] p.rest
 
-pub listing_fits : (x : Symbol) (e : Ast) (es : List Ast) → FoundFits (GoingIn.listing x e es)
-listing_fits x e es = evaluated_fits e _ _ refl (λ v. refl)
-
-pub cond_fits : (c : _) (cs : _) → FoundFits (GoingIn.cond c cs)
-cond_fits c cs = evaluated_fits c.test _ _ refl (λ v. refl)
-
-pub and_part_fits : (e : Ast) (es : List Ast) → FoundFits (GoingIn.and_part e es)
-and_part_fits e es = evaluated_fits e _ _ refl (λ v. refl)
-
-pub or_part_fits : (e : Ast) (es : List Ast) → FoundFits (GoingIn.or_part e es)
-or_part_fits e es = evaluated_fits e _ _ refl (λ v. refl)
-
-pub defparameter_fits : (x : Symbol) (e : Ast) → FoundFits (GoingIn.defparameter x e)
-defparameter_fits x e = evaluated_fits e _ _ refl (λ v. refl)
+continued_fits : (p : Progress) (v : Value) → FoundFits (continued p v)
+continued_fits p v = found_fits (needs p.row (p.done + length p.rest) - p.done) p.row p.done (p.values ++ v ∷ []) p.rest
 
 -- ---- layers
 
@@ -195,13 +132,13 @@ enter_place : (space : ℕ) (c : Context) (found : Found) → Place (bares c) �
 enter_place space c (Already v) place h = place
 enter_place space c (Here f) place h = place
 enter_place zero c (Inside p e) place h = place
-enter_place (suc space) c (Inside p e) place h = enter_place space (frame.On p ∷ c) (look e) (inside p (bares c) h place) (look_fits e)
+enter_place (suc space) c (Inside p e) place h = enter_place space (frame.On (plain.Form p) ∷ c) (look e) (inside (plain.Form p) (bares c) refl place) (look_fits e)
 
 enter_redex : (space : ℕ) (c : Context) (found : Found) → Place (bares c) → FoundFits found → RedexFits (enter space c found).redex (bares (enter space c found).around)
 enter_redex space c (Already v) place h = place.busy
 enter_redex space c (Here f) place h = focus_fits f (bares c) h place.busy
 enter_redex zero c (Inside p e) place h = tt
-enter_redex (suc space) c (Inside p e) place h = enter_redex space (frame.On p ∷ c) (look e) (inside p (bares c) h place) (look_fits e)
+enter_redex (suc space) c (Inside p e) place h = enter_redex space (frame.On (plain.Form p) ∷ c) (look e) (inside (plain.Form p) (bares c) refl place) (look_fits e)
 
 wrap_place : (space : ℕ) (c : Context) (ps : List Plain) (found : Found) → Place (bares c) → PlainsFit ps (bares c) → FoundFits found → Place (bares (wrap space c ps found).around)
 wrap_place space c [] found place g h = enter_place space c found place h
@@ -262,26 +199,7 @@ OptionFits p None = Unit {0}
 OptionFits p (Some found) = FoundFits found × ((d : Context) → LayerFits (frame.On (bare_plain p)) d → waits d ≡ false)
 
 resumed_fits : (p : Plain) (v : Value) → OptionFits p (resumed p v)
-resumed_fits (plain.Progn es) v = (refl, λ d h. h)
-resumed_fits (plain.If chosen otherwise) v = (refl, λ d h. h)
-resumed_fits (plain.When es) v = (refl, λ d h. h)
-resumed_fits (plain.Unless es) v = (refl, λ d h. h)
-resumed_fits (plain.Cond es cs) v = (refl, λ d h. h)
-resumed_fits (plain.And es) v = (refl, λ d h. h)
-resumed_fits (plain.Or es) v = (refl, λ d h. h)
-resumed_fits (plain.Let vs x bs es) v = (let_values_fits (vs ++ bound_to x v ∷ []) bs es, λ d h. h)
-resumed_fits (plain.LetStar x bs es) v = (refl, λ d h. h)
-resumed_fits (plain.Setq x ps) v = (refl, λ d h. h)
-resumed_fits (plain.ReturnFrom name) v = (refl, λ d h. h)
-resumed_fits (plain.DoTimes x es) v = (refl, λ d h. h)
-resumed_fits (plain.DoList x es) v = (refl, λ d h. h)
-resumed_fits (plain.CatchTag es) v = (refl, λ d h. h)
-resumed_fits (plain.ThrowTag e) v = (thrown_fits v e, λ d h. h)
-resumed_fits (plain.ThrowValue tag) v = (refl, λ d h. h)
-resumed_fits (plain.Defparameter x) v = (refl, λ d h. h)
-resumed_fits (plain.HandlerBind vs kind hs es) v = (handler_values_fits (vs ++ handler_of kind v ∷ []) hs es, λ d h. h)
-resumed_fits (plain.WithSimpleRestart name control vs es body) v = (restart_arguments_fits name control (vs ++ v ∷ []) es body, λ d h. h)
-resumed_fits (plain.Arguments g vs es) v = (arguments_fits g (vs ++ v ∷ []) es, λ d h. h)
+resumed_fits (plain.Form p) v = (continued_fits p v, λ d h. h)
 resumed_fits (plain.Map g list next collected) v = (refl, λ d h. h)
 resumed_fits p v = tt
 

@@ -14,7 +14,6 @@ use Rattle.rpc_messages.specs.declared.from_emacs.FromEmacs.TheVariants as mail
 use Rattle.rpc_messages.specs.declared.pattern.Pattern.{Pattern}
 use Rattle.rpc_messages.specs.declared.pattern.Pattern.TheVariants as pattern
 use Rattle.syntax_trees.specs.declared.ast.Ast.{Ast}
-use Rattle.syntax_trees.specs.declared.ast.Ast.TheViews.{out-Ast}
 use Rattle.term_model.specs.declared.focus.Focus.{Focus}
 use Rattle.term_model.specs.declared.focus.Focus.TheVariants as focus
 use Rattle.term_model.specs.declared.found.Found.TheVariants.{Here}
@@ -34,6 +33,7 @@ use Rattle.term_model.specs.Variables.{with_dynamic, with_lexical}
 use Rattle.step_model.specs.Act as act
 use Rattle.step_model.specs.Act.{Act}
 use Rattle.step_model.specs.CurrentPackage.{binds_package, bound_package}
+use Rattle.step_model.specs.Decision.{decided}
 use Rattle.step_model.specs.Facts.{FocusFits, IsSound, bares, waits}
 use Rattle.step_model.specs.Now.{Now, around, tells}
 use Rattle.step_model.specs.Perform.{outcome_of, answer_in, asks, assigns, awaited, begins, breaks_if, enters_if, interrupted, offering, outward, package_bound, passes, perform, protects, protects_value, sets, takes, takes_mail, took, turned, written}
@@ -43,7 +43,7 @@ use Rattle.step_model.specs.Requests.{asked, finished}
 use Rattle.step_model.specs.Rules.{Rules}
 use Rattle.step_model.specs.Step as the_step
 use Rattle.step_model.specs.Step.{act_if, announced_at, begun}
-use Rattle.step_model.specs.Table.{answered, given_alone, given_row, or_shared, row}
+use Rattle.step_model.specs.Table.{answered, given_row, row}
 use Rattle.step_model.proofs.BareLemmas.{bares-with_dynamic, bares-with_lexical, length-bares, levels-bares}
 use Rattle.step_model.proofs.ExitRooms.{Bounded, exits_room, redex_bounded}
 use Rattle.step_model.proofs.FitLemmas.{Place}
@@ -92,7 +92,7 @@ one_more c space e =
     let k : room c ≡ suc space = e in omega (arith, length-bares c, ap limit (levels-bares c))
 
 protects_room : (n : Now) (space : ℕ) (e : Ast) (cleanup : List Ast) → room n.context ≡ space → LayersRoom (bares n.context) → layers (bares n.context) ≤ limit (levels (bares n.context)) → Roomy (protects n space e cleanup)
-protects_room n zero e cleanup is h g = protects_value_room n (value_in (out-Ast e)) cleanup h g
+protects_room n zero e cleanup is h g = protects_value_room n (value_in e) cleanup h g
 protects_room n (suc space) e cleanup is h g =
     goes_room (around (record n { serial = n.serial + 1 }) (frame.Protect n.serial cleanup ∷ n.context)) [] (look e) (tt, h) (omega (arith, one_more n.context space is))
 
@@ -207,24 +207,25 @@ outward_room n l c a e same f h g =
     let i = tail_inner l c e h g in
     perform_room (around n (outward (l ∷ c))) a (subst (λ d. ActFits a (bares d)) (sym same) f) (subst (λ d. Inner (bares d)) (sym same) i)
 
-given_room : (rules : Rules) (n : Now) (c : Context) (o : Outcome) → ActFits (or_shared (given_alone c o) (given_row rules n c o)) (bares c) → LayersRoom (bares c) → layers (bares c) ≤ limit (levels (bares c)) + 1 → Roomy (perform (around n c) (or_shared (given_alone c o) (given_row rules n c o)))
-given_room rules n [] o f h g = passes_room (around n []) [] (outcome_of n.redex) f h g
-given_room rules n (frame.On (plain.Before q) ∷ c) o f h g = outward_room n (frame.On (plain.Before q)) c (act.Resumes q) refl refl f h g
-given_room rules n (frame.On (plain.Answer kept) ∷ c) (outcome.Value v) f h g = outward_room n (frame.On (plain.Answer kept)) c (finished (around n c) v (rules.finish (asked (around n c)) kept v)) refl refl f h g
-given_room rules n (frame.On p ∷ c) o f h g = outward_room n (frame.On p) c (act.Gives o) refl refl f h g
-given_room rules n (frame.Ask kind tag ∷ c) (outcome.Value v) f h g = outward_room n (frame.Ask kind tag) c (gives_made (answered kind (out-Value v))) refl refl f h g
-given_room rules n (frame.Ask kind tag ∷ c) (outcome.Reply r) f h g = outward_room n (frame.Ask kind tag) c (act.Gives (outcome.Reply r)) refl refl f h g
-given_room rules n (frame.Protect k cleanup ∷ c) o f h g = passes_room (around n (frame.Protect k cleanup ∷ c)) (frame.Protect k cleanup ∷ c) (outcome_of n.redex) f h g
-given_room rules n (frame.Cleanup k kept ∷ c) o f h g = passes_room (around n (frame.Cleanup k kept ∷ c)) (frame.Cleanup k kept ∷ c) (outcome_of n.redex) f h g
-given_room rules n (frame.Rex i id form ∷ c) o f h g = passes_room (around n (frame.Rex i id form ∷ c)) (frame.Rex i id form ∷ c) (outcome_of n.redex) f h g
-given_room rules n (frame.Sldb m condition again ∷ c) o f h g = passes_room (around n (frame.Sldb m condition again ∷ c)) (frame.Sldb m condition again ∷ c) (outcome_of n.redex) f h g
+-- the row of one thread, carried out by another in the same place
+given_room : (rules : Rules) (n m : Now) (c : Context) (o : Outcome) → ActFits (decided n (given_row rules c o)) (bares c) → LayersRoom (bares c) → layers (bares c) ≤ limit (levels (bares c)) + 1 → Roomy (perform (around m c) (decided n (given_row rules c o)))
+given_room rules n m [] o f h g = passes_room (around m []) [] (outcome_of m.redex) f h g
+given_room rules n m (frame.On (plain.Before q) ∷ c) o f h g = outward_room m (frame.On (plain.Before q)) c (act.Resumes q) refl refl f h g
+given_room rules n m (frame.On (plain.Answer kept) ∷ c) (outcome.Value v) f h g = outward_room m (frame.On (plain.Answer kept)) c (finished (around n c) v (rules.finish (asked (around n c)) kept v)) refl refl f h g
+given_room rules n m (frame.On p ∷ c) o f h g = outward_room m (frame.On p) c (act.Gives o) refl refl f h g
+given_room rules n m (frame.Ask kind tag ∷ c) (outcome.Value v) f h g = outward_room m (frame.Ask kind tag) c (gives_made (answered kind (out-Value v))) refl refl f h g
+given_room rules n m (frame.Ask kind tag ∷ c) (outcome.Reply r) f h g = outward_room m (frame.Ask kind tag) c (act.Gives (outcome.Reply r)) refl refl f h g
+given_room rules n m (frame.Protect k cleanup ∷ c) o f h g = passes_room (around m (frame.Protect k cleanup ∷ c)) (frame.Protect k cleanup ∷ c) (outcome_of m.redex) f h g
+given_room rules n m (frame.Cleanup k kept ∷ c) o f h g = passes_room (around m (frame.Cleanup k kept ∷ c)) (frame.Cleanup k kept ∷ c) (outcome_of m.redex) f h g
+given_room rules n m (frame.Rex i id form ∷ c) o f h g = passes_room (around m (frame.Rex i id form ∷ c)) (frame.Rex i id form ∷ c) (outcome_of m.redex) f h g
+given_room rules n m (frame.Sldb level condition again ∷ c) o f h g = passes_room (around m (frame.Sldb level condition again ∷ c)) (frame.Sldb level condition again ∷ c) (outcome_of m.redex) f h g
 
 -- the row of a redex
-row_room : (rules : Rules) (n : Now) (f : Focus) → ActFits (row rules n f) (bares n.context) → LayersRoom (bares n.context) → BrokenRoom f (bares n.context) → Roomy (perform n (row rules n f))
-row_room rules n (focus.Given o) a h g = given_room rules n n.context o a h g
-row_room rules n (focus.Break o) a h g = breaks_room n (may_open n.context) _ h g
-row_room rules n focus.Abort a h g = abort_room n h (redex_bounded focus.Abort (bares n.context) g)
-row_room rules n f a h g = perform_room n (row rules n f) a (record { rooms = h; within = g })
+row_room : (rules : Rules) (n : Now) (f : Focus) → ActFits (row rules n f) (bares n.context) → LayersRoom (bares n.context) → BrokenRoom f (bares n.context) → Roomy (perform (begun n) (row rules n f))
+row_room rules n (focus.Given o) a h g = given_room rules n (begun n) n.context o a h g
+row_room rules n (focus.Break o) a h g = breaks_room (begun n) (may_open n.context) _ h g
+row_room rules n focus.Abort a h g = abort_room (begun n) h (redex_bounded focus.Abort (bares n.context) g)
+row_room rules n f a h g = perform_room (begun n) (row rules n f) a (record { rooms = h; within = g })
 
 act_room : (n : Now) (b : Bool) (a : Act) → LayersRoom (bares n.context) → Bounded (bares n.context) → Roomy (perform (begun n) a) → Roomy (perform (begun n) (act_if b n a))
 act_room n true a h g r = r
@@ -242,7 +243,7 @@ announced_room n c f e g r = r
 pub step_rooms : (rules : Rules) (n : Now) → IsSound n.context n.redex → HasRoomBroken n.context n.redex → HasRoom (the_step.step rules n).context (the_step.step rules n).redex
 step_rooms rules n s h =
     let d = perform (begun n) (the_step.act rules n) in
-    let r : Roomy (perform (begun n) (row rules n n.redex)) = row_room rules (begun n) n.redex (row_fits rules n n.redex s.layers s.redex) h.layers h.redex in
+    let r : Roomy (perform (begun n) (row rules n n.redex)) = row_room rules n n.redex (row_fits rules n n.redex s.layers s.redex) h.layers h.redex in
     announced_room d d.context d.redex refl refl
     (act_room n (the_step.is_built rules n) (row rules n n.redex) h.layers (redex_bounded n.redex (bares n.context) h.redex) r)
 

@@ -5,6 +5,8 @@ pub mod FitLemmas
 pub mod TargetFits
 pub mod SearchFits
 pub mod PerformFits
+pub mod FunctionFits
+pub mod FormFits
 pub mod RowFits
 pub mod KeepsFacts
 pub mod KeepsOrder

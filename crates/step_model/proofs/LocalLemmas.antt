@@ -1,6 +1,6 @@
 -- A step that a thread makes by itself is the step.
-use Rattle.std.proofs.Common.{◌≡◌, ℕ, ℤ, Bool, true, false, ◌&&◌, List, [], ◌∷◌, Option, Some, None, refl, sym, ap, ◌∙◌, subst}
-use Rattle.std.specs.Prelude.{not, if◌then◌else◌, is_some, option_map, option_and_then}
+use Rattle.std.proofs.Common.{◌≡◌, ℕ, ℤ, pos, ◌-◌, Bool, true, false, ◌&&◌, List, [], ◌∷◌, Option, Some, None, refl, sym, ap, ◌∙◌, subst}
+use Rattle.std.specs.Prelude.{not, if◌then◌else◌, slice_get, is_some, option_map, option_and_then}
 use Rattle.std.proofs.lemmas.Bool.{false≢true}
 use Rattle.lisp_data.specs.declared.symbol.Symbol.{Symbol}
 use Rattle.lisp_data.specs.declared.value.Value.{Value}
@@ -8,10 +8,13 @@ use Rattle.lisp_data.specs.declared.value.Value.TheOpen.{Value-F}
 use Rattle.lisp_data.specs.declared.value.Value.TheViews.{out-Value}
 use Rattle.lisp_data.specs.declared.value.Condition.{Condition}
 use Rattle.rpc_messages.specs.declared.pattern.Pattern.TheVariants as pattern
-use Rattle.syntax_trees.specs.declared.ast.Assignment.{Assignment}
 use Rattle.syntax_trees.specs.declared.ast.Ast.{Ast}
-use Rattle.syntax_trees.specs.declared.ast.Ast.TheOpen.{Ast-F}
-use Rattle.syntax_trees.specs.declared.ast.Ast.TheViews.{out-Ast}
+use Rattle.syntax_trees.specs.declared.row.Bare.{Bare}
+use Rattle.syntax_trees.specs.declared.row.Bare.TheVariants as bare
+use Rattle.syntax_trees.specs.declared.row.Holder.TheVariants as holder
+use Rattle.syntax_trees.specs.declared.row.Named.TheVariants as named
+use Rattle.syntax_trees.specs.declared.row.Row.{Row}
+use Rattle.syntax_trees.specs.declared.row.Row.TheVariants as row
 use Rattle.term_model.specs.declared.focus.Focus.{Focus}
 use Rattle.term_model.specs.declared.focus.Focus.TheVariants as focus
 use Rattle.term_model.specs.declared.found.Found.{Found}
@@ -21,21 +24,24 @@ use Rattle.term_model.specs.declared.kept.Outcome.{Outcome}
 use Rattle.term_model.specs.declared.kept.Outcome.TheVariants as outcome
 use Rattle.term_model.specs.declared.plain.Plain.{Plain}
 use Rattle.term_model.specs.declared.plain.Plain.TheVariants as plain
-use Rattle.term_model.specs.GoingIn.{resumed}
+use Rattle.term_model.specs.GoingIn.{advanced, resumed}
+use Rattle.term_model.specs.Progress.{Progress}
 use Rattle.term_model.specs.Room.{Entered, is_within, room, wrap}
 use Rattle.term_model.specs.Term.{Context}
 use Rattle.term_model.specs.Variables.{lexical, with_lexical}
 use Rattle.step_model.specs.Act as act
 use Rattle.step_model.specs.Act.{Act}
-use Rattle.step_model.specs.Local.{Spot, entered_alone, gives_alone, given_to, goes_alone, if_built, is_announced, is_inside, is_listed, is_listed_form, is_listed_marker, lays_alone, lays_alone_if, performed_alone, step_alone, unannounced}
+use Rattle.step_model.specs.Local.{Spot, entered_alone, gives_alone, given_to, goes_alone, if_built, is_announced, is_inside, is_integer, is_lexical_in, is_list, is_listed, is_listed_bare, is_listed_form, is_listed_marker, is_listed_setq, is_none_or, lays_alone, lays_alone_if, performed_alone, step_alone, unannounced}
 use Rattle.step_model.specs.Now.{Now, around, puts}
 use Rattle.step_model.specs.Perform.{assigns_or, given, gives_in, goes, laid, lays, lays_if, outward, perform}
 use Rattle.step_model.specs.Requests.{asked}
 use Rattle.step_model.specs.Rules.{Asked, Rules}
 use Rattle.step_model.specs.Step.{act_if, announced_at, begun, is_form_built, is_row_built, raises, step}
-use Rattle.step_model.specs.Forms.{form_alone, variable_alone}
-use Rattle.step_model.specs.Kinds.{gives_value, integer_in, list_in}
-use Rattle.step_model.specs.Table.{alone, counts, given_alone, lists, or_shared, row, setq_alone, shared}
+use Rattle.step_model.specs.Decision.{Decision, Alone, Beyond, decided, decided_alone}
+use Rattle.step_model.specs.Forms as forms
+use Rattle.step_model.specs.Kinds.{integer_in, list_in}
+use Rattle.step_model.specs.Table.{alone, decide, given_row}
+use Rattle.step_model.specs.Table as table
 
 -- what the term alone gives, where it gives something, is what the thread comes to
 abbrev Gets : Option Spot → Now → Now → Type 0
@@ -123,16 +129,21 @@ announced_not : (n : Now) (c : Context) (f : Focus) → is_announced c f ≡ fal
 announced_not n (frame.Sldb k condition true ∷ c) (focus.Wait pattern.Rex) e = absurd (false≢true (sym e))
 announced_not n c f e = refl
 
+-- what the term alone decides is decided
+decided_is : (n : Now) (x : Decision) (a : Act) → decided_alone x ≡ Some a → decided n x ≡ a
+decided_is n (Alone b) a e = cc
+decided_is n (Beyond g) a e = absurd (cc)
+
 -- the step of an act that the term alone decides
 acted : (rules : Rules) (n : Now) (a : Act) (q : Option Spot) (s : Spot) → is_form_built n.context n.redex ≡ true → alone rules n.context n.redex ≡ Some a → performed_alone n.context a ≡ q → option_and_then unannounced q ≡ Some s → step rules n ≡ puts (begun n) s.0 s.1
 acted rules n a None s built is e h = absurd (cc)
 acted rules n a (Some q) s built is e h =
     let quiet = unannounced_is q s (is_announced q.0 q.1) refl h in
-    let row_is : row rules n n.redex ≡ a = ap (λ o. or_shared o (shared rules n n.redex)) is in
-    let no_raise : raises (row rules n n.redex) ≡ false = ap raises row_is ∙ raises_not n.context a q e in
-    let is_built : (is_row_built rules (asked n) n.context n.redex && not (raises (row rules n n.redex))) ≡ true =
-    both_true (is_row_built rules (asked n) n.context n.redex) (raises (row rules n n.redex)) (row_built rules (asked n) n.context n.redex built) no_raise in
-    let act_is : act_if (is_row_built rules (asked n) n.context n.redex && not (raises (row rules n n.redex))) n (row rules n n.redex) ≡ a = ap (λ b. act_if b n (row rules n n.redex)) is_built ∙ row_is in
+    let row_is : table.row rules n n.redex ≡ a = decided_is n (decide rules n.context n.redex) a is in
+    let no_raise : raises (table.row rules n n.redex) ≡ false = ap raises row_is ∙ raises_not n.context a q e in
+    let is_built : (is_row_built rules (asked n) n.context n.redex && not (raises (table.row rules n n.redex))) ≡ true =
+    both_true (is_row_built rules (asked n) n.context n.redex) (raises (table.row rules n n.redex)) (row_built rules (asked n) n.context n.redex built) no_raise in
+    let act_is : act_if (is_row_built rules (asked n) n.context n.redex && not (raises (table.row rules n n.redex))) n (table.row rules n n.redex) ≡ a = ap (λ b. act_if b n (table.row rules n n.redex)) is_built ∙ row_is in
     let done : perform (begun n) a ≡ puts (begun n) q.0 q.1 = subst (λ o. Gets o (begun n) (perform (begun n) a)) e (performed_is (begun n) a) in
     ap (λ x. announced_at x x.context x.redex) (ap (λ x. perform (begun n) x) act_is ∙ done)
     ∙ announced_not (puts (begun n) q.0 q.1) q.0 q.1 quiet.0
@@ -149,69 +160,90 @@ local_step rules n s h = local_by rules n s (is_form_built n.context n.redex && 
 
 -- ---- the listed redexes
 
-some_map : {A B : Type 0} (g : A → B) (o : Option A) → is_some o ≡ true → is_some (option_map g o) ≡ true
-some_map g (Some x) e = refl
-some_map g None e = absurd (false≢true e)
+-- the term alone decides
+abbrev IsAlone : Decision → Type 0
+IsAlone x = is_some (decided_alone x) ≡ true
 
-some_variable : (o : Option Value) → is_some o ≡ true → is_some (variable_alone o) ≡ true
-some_variable (Some v) e = refl
-some_variable None e = absurd (false≢true e)
+some_variable : (x : Symbol) (o : Option Value) → is_some o ≡ true → IsAlone (forms.variable_row x o)
+some_variable x (Some v) e = refl
+some_variable x None e = absurd (false≢true e)
 
-some_setq : (x : Symbol) (v : Value) (ps : List (Assignment Ast)) (o : Option Value) → is_some o ≡ true → is_some (setq_alone x v ps o) ≡ true
-some_setq x v ps (Some old) e = refl
-some_setq x v ps None e = absurd (false≢true e)
+some_assigns : (x : Symbol) (v : Value) (a : Act) (o : Option Value) → is_some o ≡ true → IsAlone (forms.assigns_row x v a o)
+some_assigns x v a (Some old) e = refl
+some_assigns x v a None e = absurd (false≢true e)
 
-some_counts : (x : Symbol) (i : ℤ) (count : Value) (es : List Ast) (y : Value-F Value Condition) → is_some (integer_in y) ≡ true → is_some (counts x i count es y) ≡ true
+some_setq_named : (c : Context) (v : Value) (a : Act) (o : Option Symbol) → is_lexical_in c o ≡ true → IsAlone (forms.setq_named c v a o)
+some_setq_named c v a (Some x) e = some_assigns x v a (lexical x c) e
+some_setq_named c v a None e = absurd (false≢true e)
+
+some_setq : (c : Context) (xs : List Symbol) (p : Progress) (vs : List Value) → is_listed_setq c xs p vs ≡ true → IsAlone (forms.setq_row c xs p vs)
+some_setq c xs p [] e = absurd (false≢true e)
+some_setq c xs p (v ∷ vs) e = some_setq_named c v (forms.goes_on v p.rest (advanced p)) (slice_get xs (p.done - 1)) e
+
+some_counts : (x : Symbol) (i : ℤ) (count : Value) (es : List Ast) (y : Value-F Value Condition) → is_some (integer_in y) ≡ true → IsAlone (forms.counts_to x i count es y)
 some_counts x i count es (Value-F.Int k) e = refl
 some_counts x i count es (Value-F.Str text) e = absurd (false≢true e)
 some_counts x i count es (Value-F.Sym s) e = absurd (false≢true e)
 some_counts x i count es (Value-F.List vs) e = absurd (false≢true e)
 some_counts x i count es (Value-F.Cond c) e = absurd (false≢true e)
 
-some_lists : (x : Symbol) (i : ℕ) (list : Value) (es : List Ast) (y : Value-F Value Condition) → is_some (list_in y) ≡ true → is_some (lists x i list es y) ≡ true
+some_lists : (x : Symbol) (i : ℕ) (list : Value) (es : List Ast) (y : Value-F Value Condition) → is_some (list_in y) ≡ true → IsAlone (forms.lists_in x i list es y)
 some_lists x i list es (Value-F.List vs) e = refl
 some_lists x i list es (Value-F.Int k) e = absurd (false≢true e)
 some_lists x i list es (Value-F.Str text) e = absurd (false≢true e)
 some_lists x i list es (Value-F.Sym s) e = absurd (false≢true e)
 some_lists x i list es (Value-F.Cond c) e = absurd (false≢true e)
 
-some_marker : (c : Context) (v : Value) → is_listed_marker c ≡ true → is_some (given_alone c (outcome.Value v)) ≡ true
-some_marker [] v e = absurd (false≢true e)
-some_marker (frame.On (plain.Before f) ∷ c) v e = refl
-some_marker (frame.On (plain.Answer kept) ∷ c) v e = absurd (false≢true e)
-some_marker (frame.On p ∷ c) v e = refl
-some_marker (frame.Protect k cleanup ∷ c) v e = absurd (false≢true e)
-some_marker (frame.Cleanup k kept ∷ c) v e = absurd (false≢true e)
-some_marker (frame.Rex i id form ∷ c) v e = absurd (false≢true e)
-some_marker (frame.Sldb n condition again ∷ c) v e = absurd (false≢true e)
-some_marker (frame.Ask kind tag ∷ c) v e = absurd (false≢true e)
+some_dotimes : (x : Symbol) (p : Progress) (vs : List Value) → is_none_or is_integer vs ≡ true → IsAlone (forms.dotimes_row x p vs)
+some_dotimes x p [] e = refl
+some_dotimes x p (v ∷ vs) e = some_counts x (pos 0) v p.rest (out-Value v) e
 
-some_form : (c : Context) (x : Ast-F Ast) → is_listed_form c x ≡ true → is_some (form_alone c x) ≡ true
-some_form c (Ast-F.Progn []) e = refl
-some_form c (Ast-F.Cond []) e = refl
-some_form c (Ast-F.And []) e = refl
-some_form c (Ast-F.Or []) e = refl
-some_form c (Ast-F.Loop es) e = refl
-some_form c (Ast-F.DoTimes x count es) e = refl
-some_form c (Ast-F.DoList x list es) e = refl
-some_form c (Ast-F.Variable x) e = some_variable (lexical x c) e
-some_form c x e = absurd (false≢true e)
+some_dolist : (x : Symbol) (p : Progress) (vs : List Value) → is_none_or is_list vs ≡ true → IsAlone (forms.dolist_row x p vs)
+some_dolist x p [] e = refl
+some_dolist x p (v ∷ vs) e = some_lists x 0 v p.rest (out-Value v) e
+
+some_call : (rules : Rules) (g : Symbol) (vs : List Value) (o : Option Value) → is_some o ≡ true → IsAlone (forms.call_row rules g vs o)
+some_call rules g vs (Some v) e = refl
+some_call rules g vs None e = absurd (false≢true e)
+
+some_marker : (rules : Rules) (c : Context) (v : Value) → is_listed_marker c ≡ true → IsAlone (given_row rules c (outcome.Value v))
+some_marker rules [] v e = absurd (false≢true e)
+some_marker rules (frame.On (plain.Before f) ∷ c) v e = refl
+some_marker rules (frame.On (plain.Answer kept) ∷ c) v e = absurd (false≢true e)
+some_marker rules (frame.On p ∷ c) v e = refl
+some_marker rules (frame.Protect k cleanup ∷ c) v e = absurd (false≢true e)
+some_marker rules (frame.Cleanup k kept ∷ c) v e = absurd (false≢true e)
+some_marker rules (frame.Rex i id form ∷ c) v e = absurd (false≢true e)
+some_marker rules (frame.Sldb n condition again ∷ c) v e = absurd (false≢true e)
+some_marker rules (frame.Ask kind tag ∷ c) v e = absurd (false≢true e)
+
+some_bare : (b : Bare) (p : Progress) → is_listed_bare b ≡ true → IsAlone (forms.bare_row b p)
+some_bare bare.If p e = refl
+some_bare bare.When p e = refl
+some_bare bare.Unless p e = refl
+some_bare bare.Cond p e = refl
+some_bare bare.And p e = refl
+some_bare bare.Or p e = refl
+some_bare bare.Progn p e = refl
+some_bare bare.Loop p e = refl
+some_bare b p e = absurd (false≢true e)
+
+some_form : (rules : Rules) (c : Context) (r : Row) (p : Progress) → is_listed_form rules c r p ≡ true → IsAlone (forms.form_by rules c r p)
+some_form rules c (row.Bare b) p e = some_bare b p e
+some_form rules c (row.Held holder.DoTimes x) p e = some_dotimes x p p.values e
+some_form rules c (row.Held holder.DoList x) p e = some_dolist x p p.values e
+some_form rules c (row.Variable x) p e = some_variable x (lexical x c) e
+some_form rules c (row.Setq xs) p e = some_setq c xs p p.values e
+some_form rules c (row.Named named.Call g) p e = some_call rules g p.values (rules.alone g p.values) e
+some_form rules c r p e = absurd (false≢true e)
 
 -- each listed redex has a row that the term alone decides
 pub listed_alone : (rules : Rules) (c : Context) (f : Focus) → is_listed rules c f ≡ true → is_some (alone rules c f) ≡ true
-listed_alone rules c (focus.Given (outcome.Value v)) e = some_marker c v e
+listed_alone rules c (focus.Given (outcome.Value v)) e = some_marker rules c v e
 listed_alone rules c (focus.Given (outcome.Reply r)) e = absurd (false≢true e)
-listed_alone rules c (focus.Form a) e = some_form c (out-Ast a) e
-listed_alone rules c (focus.Progn v es) e = refl
-listed_alone rules c (focus.If test chosen otherwise) e = refl
-listed_alone rules c (focus.When test es) e = refl
-listed_alone rules c (focus.Unless test es) e = refl
-listed_alone rules c (focus.Cond test es cs) e = refl
-listed_alone rules c (focus.And v es) e = refl
-listed_alone rules c (focus.Or v es) e = refl
+listed_alone rules c (focus.Form p) e = some_form rules c p.row p e
 listed_alone rules c (focus.Loop es) e = refl
 listed_alone rules c (focus.DoTimes x i count es) e = some_counts x i count es (out-Value count) e
 listed_alone rules c (focus.DoList x i list es) e = some_lists x i list es (out-Value list) e
-listed_alone rules c (focus.Setq x v ps) e = some_setq x v ps (lexical x c) e
-listed_alone rules c (focus.Apply g vs) e = some_map gives_value (rules.alone g vs) e
+listed_alone rules c (focus.Apply g vs) e = some_call rules g vs (rules.alone g vs) e
 listed_alone rules c f e = absurd (false≢true e)

@@ -1,6 +1,6 @@
 -- Each function that the machine runs is found by its name.
 use Rattle.std.proofs.Common.{◌≡◌, Some, refl}
-use Rattle.syntax_trees.specs.Symbols.{cl}
+use Rattle.lisp_data.specs.Symbols.{cl}
 use Rattle.step_model.specs.declared.machine_function.MachineFunction.{MachineFunction}
 use Rattle.step_model.specs.declared.machine_function.MachineFunction.TheVariants as f
 use Rattle.step_model.specs.MachineFunctions.{machine_function, machine_name}

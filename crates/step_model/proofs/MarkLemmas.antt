@@ -12,7 +12,7 @@ use Rattle.term_model.specs.declared.plain.Plain.TheVariants as plain
 use Rattle.term_model.specs.Exit.{again, stir}
 use Rattle.term_model.specs.GoingIn.{look}
 use Rattle.term_model.specs.Room.{enter, levels, wrap}
-use Rattle.lisp_sequences.specs.Same.{same_symbol}
+use Rattle.lisp_data.specs.Same.{same_symbol}
 use Rattle.term_model.specs.Search as sight
 use Rattle.term_model.specs.Search.{Sight, changed, changed_by}
 use Rattle.term_model.specs.Term.{Context}
@@ -33,7 +33,7 @@ pub marks-enter : (space : ℕ) (c : Context) (found : Found) → marks c ≡ ma
 marks-enter space c (Already v) = refl
 marks-enter space c (Here f) = refl
 marks-enter zero c (Inside p e) = refl
-marks-enter (suc space) c (Inside p e) = marks-enter space (frame.On p ∷ c) (look e)
+marks-enter (suc space) c (Inside p e) = marks-enter space (frame.On (plain.Form p) ∷ c) (look e)
 
 pub marks-wrap : (space : ℕ) (c : Context) (ps : List Plain) (found : Found) → marks c ≡ marks (wrap space c ps found).around
 marks-wrap space c [] found = marks-enter space c found

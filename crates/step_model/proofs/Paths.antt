@@ -14,8 +14,6 @@ use Rattle.rpc_messages.specs.declared.from_emacs.FromEmacs.TheVariants as mail
 use Rattle.rpc_messages.specs.declared.pattern.Pattern.{Pattern}
 use Rattle.rpc_messages.specs.declared.pattern.Pattern.TheVariants as pattern
 use Rattle.syntax_trees.specs.declared.ast.Ast.{Ast}
-use Rattle.syntax_trees.specs.declared.ast.Ast.TheViews.{out-Ast}
-use Rattle.syntax_trees.specs.declared.ast.HandlerClause.{HandlerClause}
 use Rattle.term_model.specs.declared.focus.Focus.{Focus}
 use Rattle.term_model.specs.declared.focus.Focus.TheVariants as focus
 use Rattle.term_model.specs.declared.found.Found.{Found}
@@ -37,7 +35,8 @@ use Rattle.term_model.specs.declared.restart.Action.TheVariants.{Give, Run}
 use Rattle.term_model.specs.declared.restart.Offer.{Offer}
 use Rattle.term_model.specs.Breaks.{may_open, max_levels}
 use Rattle.term_model.specs.Exit.{Left, distance, dropped, leave, stir}
-use Rattle.term_model.specs.GoingIn.{body, look, nil, resumed, value_in}
+use Rattle.lisp_data.specs.Parts.{nil}
+use Rattle.term_model.specs.GoingIn.{body, look, resumed, value_in}
 use Rattle.term_model.specs.Label.{Label}
 use Rattle.term_model.specs.Restarts.{abort_exit}
 use Rattle.term_model.specs.Room.{is_within, levels, room, wrap}
@@ -53,7 +52,7 @@ use Rattle.step_model.specs.Marks.{State, marks, state_of}
 use Rattle.step_model.specs.Moves as move
 use Rattle.step_model.specs.Moves.{At, Comes, Path, Phase, Calm, Made, Turned, announced_level, go, stay}
 use Rattle.step_model.specs.Now.{Now, around, tells}
-use Rattle.step_model.specs.Perform.{outcome_of, after_leaving, answer_in, asks, assigns, assigns_or, brings, calls_again, condition_bound, cut_off, ends, enters_if, breaks_if, exhausted_if, exits, finishes, given, gives, gives_in, goes, interrupted, laid, lands, lays, lays_if, offering, opens, outward, package_bound, parameters_bound, passes, perform, protects, protects_value, runs_action, runs_clause, runs_handler, runs_offer, sets, sets_or, takes, took, turned, written}
+use Rattle.step_model.specs.Perform.{outcome_of, after_leaving, answer_in, asks, assigns, assigns_or, brings, calls_again, cut_off, ends, enters_if, breaks_if, exhausted_if, exits, finishes, given, gives, gives_in, goes, interrupted, laid, lands, lays, lays_if, offering, opens, outward, package_bound, passes, perform, protects, protects_value, runs_action, runs_clause, runs_handler, runs_offer, sets, sets_or, takes, took, turned, written}
 use Rattle.step_model.specs.Rules.{Rules, Writing}
 use Rattle.step_model.specs.Step as the_step
 use Rattle.step_model.specs.Step.{announced_at}
@@ -150,13 +149,13 @@ leave_path s n exit (suc d) (frame.Ask kind tag ∷ c) h =
     regroup s n (dropped n.thread (frame.Ask kind tag)) (leave n.thread exit d c)
     (leave_path s (tells n (dropped n.thread (frame.Ask kind tag))) exit d c (go (move.Unasked kind tag) (marks c) n.serial n.mailbox h tt tt))
 
-runs_handler_path : {ph : Phase} (s : State) (n : Now) (clause : Option (HandlerClause Ast)) (vs : List Value) → At s n ph → At s (runs_handler n clause vs) ph
+runs_handler_path : {ph : Phase} (s : State) (n : Now) (clause : Option Ast) (vs : List Value) → At s n ph → At s (runs_handler n clause vs) ph
 runs_handler_path s n None vs h = goes_path s n [] (Already nil) h
-runs_handler_path s n (Some clause) vs h = goes_path s n (condition_bound clause.variable vs) (body clause.body) h
+runs_handler_path s n (Some clause) vs h = goes_path s n _ _ h
 
 runs_action_path : {ph : Phase} (s : State) (n : Now) (action : Action) (vs : List Value) → At s n ph → At s (runs_action n action vs) ph
 runs_action_path s n (Give o) vs h = gives_path s n o h
-runs_action_path s n (Run parameters es) vs h = goes_path s n (parameters_bound parameters vs) (body es) h
+runs_action_path s n (Run clause) vs h = goes_path s n _ _ h
 
 runs_offer_path : {ph : Phase} (s : State) (n : Now) (offer : Option Offer) (vs : List Value) → At s n ph → At s (runs_offer n offer vs) ph
 runs_offer_path s n None vs h = goes_path s n [] (Already nil) h
@@ -221,7 +220,7 @@ protects_value_path s n (Some v) cleanup h = (Made, quietly s n _ (go (move.Prot
 protects_value_path s n None cleanup h = (Calm, exhausted_path s n (may_open n.context) refl h)
 
 protects_path : (s : State) (n : Now) (space : ℕ) (e : Ast) (cleanup : List Ast) → At s n Calm → Comes s (protects n space e cleanup)
-protects_path s n zero e cleanup h = protects_value_path s n (value_in (out-Ast e)) cleanup h
+protects_path s n zero e cleanup h = protects_value_path s n (value_in e) cleanup h
 protects_path s n (suc space) e cleanup h =
     (Made, goes_path s (around (record n { serial = n.serial + 1 }) (frame.Protect n.serial cleanup ∷ n.context)) [] (look e) (quietly s n _ (go (move.Protects n.serial) (marks n.context) n.serial n.mailbox h refl refl)))
 

@@ -15,8 +15,9 @@ use Rattle.rpc_messages.specs.declared.from_emacs.FromEmacs.TheVariants as mail
 use Rattle.rpc_messages.specs.declared.pattern.Pattern.{Pattern}
 use Rattle.rpc_messages.specs.declared.pattern.Pattern.TheVariants as pattern
 use Rattle.syntax_trees.specs.declared.ast.Ast.{Ast}
-use Rattle.syntax_trees.specs.declared.ast.Ast.TheViews.{out-Ast}
-use Rattle.syntax_trees.specs.declared.ast.HandlerClause.{HandlerClause}
+use Rattle.syntax_trees.specs.Places.{forms_of, row_of}
+use Rattle.syntax_trees.specs.declared.row.Row.{Row}
+use Rattle.syntax_trees.specs.declared.row.Row.TheVariants as row
 use Rattle.term_model.specs.declared.focus.Focus.TheVariants as focus
 use Rattle.term_model.specs.declared.found.Found.TheVariants.{Already, Here}
 use Rattle.term_model.specs.declared.frame.Frame.{Frame}
@@ -35,7 +36,8 @@ use Rattle.term_model.specs.declared.restart.Action.TheVariants.{Give, Run}
 use Rattle.term_model.specs.declared.restart.Offer.{Offer}
 use Rattle.term_model.specs.Breaks.{may_open}
 use Rattle.term_model.specs.Exit.{distance, leave, stir}
-use Rattle.term_model.specs.GoingIn.{body, look, nil, value_in}
+use Rattle.lisp_data.specs.Parts.{nil}
+use Rattle.term_model.specs.GoingIn.{body, look, value_in}
 use Rattle.term_model.specs.Restarts.{abort_exit}
 use Rattle.term_model.specs.Room.{room}
 use Rattle.term_model.specs.Search.{layer_at}
@@ -46,7 +48,7 @@ use Rattle.step_model.specs.Act.{Act}
 use Rattle.step_model.specs.CurrentPackage.{binds_package, bound_package}
 use Rattle.step_model.specs.Facts.{FocusFits, LayersFit, TargetFits, bares, waits}
 use Rattle.step_model.specs.Now.{Mailbox, Now, around, tells}
-use Rattle.step_model.specs.Perform.{outcome_of, after_leaving, answer_in, asks, assigns, assigns_or, awaited, begins, breaks_if, brings, calls_again, condition_bound, enters_if, exits, interrupted, lands, offering, outward, package_bound, parameters_bound, passes, perform, protects, protects_value, runs_action, runs_clause, runs_handler, runs_offer, sets, sets_or, takes, takes_mail, took, turned, written}
+use Rattle.step_model.specs.Perform.{outcome_of, after_leaving, answer_in, asks, assigns, assigns_or, awaited, begins, breaks_if, brings, calls_again, clause_bound, condition_bound, enters_if, exits, interrupted, lands, offering, outward, package_bound, parameters_bound, passes, perform, protects, protects_value, runs, runs_action, runs_clause, runs_handler, runs_offer, sets, sets_or, takes, takes_mail, took, turned, written}
 use Rattle.step_model.proofs.BareLemmas.{SameBares, bares-stir, bares-with_dynamic, bares-with_lexical}
 use Rattle.step_model.proofs.FitLemmas.{FoundFits, Place, PlainsFit, Sound, body_fits, exhausted_place, gives_fits, goes_fits, lays_fits, look_fits, opens_fits}
 use Rattle.step_model.proofs.TargetFits.{LeavesWell, TodoFits, abort_fits, brings_nothing, leaves_well}
@@ -92,13 +94,21 @@ package_fits false v d e = tt
 goes_nil : (n : Now) → Place (bares n.context) → Sound (runs_handler n None [])
 goes_nil n place = goes_fits n [] (Already nil) place tt tt
 
-handler_runs : (n : Now) (clause : Option (HandlerClause Ast)) (vs : List Value) → Place (bares n.context) → Sound (runs_handler n clause vs)
+clause_bound_fit : (r : Row) (vs : List Value) (d : Context) → waits d ≡ false → PlainsFit (clause_bound r vs) d
+clause_bound_fit (row.HandlerClause kind x) vs d e = condition_fits x vs d e
+clause_bound_fit (row.RestartClause name parameters report) vs d e = parameters_fit parameters vs d e
+clause_bound_fit r vs d e = tt
+
+node_runs : (n : Now) (clause : Ast) (vs : List Value) → Place (bares n.context) → Sound (runs n clause vs)
+node_runs n clause vs place = goes_fits n _ _ place (clause_bound_fit (row_of clause) vs (bares n.context) place.busy) (body_fits (forms_of clause))
+
+handler_runs : (n : Now) (clause : Option Ast) (vs : List Value) → Place (bares n.context) → Sound (runs_handler n clause vs)
 handler_runs n None vs place = goes_nil n place
-handler_runs n (Some clause) vs place = goes_fits n (condition_bound clause.variable vs) (body clause.body) place (condition_fits clause.variable vs (bares n.context) place.busy) (body_fits clause.body)
+handler_runs n (Some clause) vs place = node_runs n clause vs place
 
 action_runs : (n : Now) (action : Action) (vs : List Value) → Place (bares n.context) → Sound (runs_action n action vs)
 action_runs n (Give o) vs place = gives_fits n o place
-action_runs n (Run parameters es) vs place = goes_fits n (parameters_bound parameters vs) (body es) place (parameters_fit parameters vs (bares n.context) place.busy) (body_fits es)
+action_runs n (Run clause) vs place = node_runs n clause vs place
 
 offer_runs : (n : Now) (offer : Option Offer) (vs : List Value) → Place (bares n.context) → Sound (runs_offer n offer vs)
 offer_runs n None vs place = goes_nil n place
@@ -161,7 +171,7 @@ protects_value_fits n (Some v) cleanup place = record { layers = (place.busy, pl
 protects_value_fits n None cleanup place = exhausted_place n place
 
 protects_fits : (n : Now) (space : ℕ) (e : Ast) (cleanup : List Ast) → Place (bares n.context) → Sound (protects n space e cleanup)
-protects_fits n zero e cleanup place = protects_value_fits n (value_in (out-Ast e)) cleanup place
+protects_fits n zero e cleanup place = protects_value_fits n (value_in e) cleanup place
 protects_fits n (suc space) e cleanup place =
     goes_fits (around (record n { serial = n.serial + 1 }) (frame.Protect n.serial cleanup ∷ n.context)) [] (look e) (record { layers = (place.busy, place.layers); busy = refl }) tt (look_fits e)
 

@@ -12,6 +12,7 @@ use Rattle.term_model.specs.declared.frame.Frame.TheVariants as frame
 use Rattle.term_model.specs.declared.kept.Outcome.{Outcome}
 use Rattle.term_model.specs.declared.kept.Outcome.TheVariants as outcome
 use Rattle.term_model.specs.declared.plain.Plain.{Plain}
+use Rattle.term_model.specs.declared.plain.Plain.TheVariants as plain
 use Rattle.term_model.specs.Breaks.{may_open}
 use Rattle.term_model.specs.GoingIn.{look, resumed}
 use Rattle.term_model.specs.Room.{enter, is_within, layers, levels, limit, room, wrap}
@@ -55,7 +56,7 @@ enter_spot : (space : ℕ) (c : Context) (found : Found) → LayersRoom (bares c
 enter_spot space c (Already v) h g = record { rooms = h; redex = omega arith }
 enter_spot space c (Here f) h g = record { rooms = h; redex = any_redex f (bares c) (omega arith) }
 enter_spot zero c (Inside p e) h g = record { rooms = h; redex = omega arith }
-enter_spot (suc space) c (Inside p e) h g = enter_spot space (frame.On p ∷ c) (look e) (tt, h) (omega arith)
+enter_spot (suc space) c (Inside p e) h g = enter_spot space (frame.On (plain.Form p) ∷ c) (look e) (tt, h) (omega arith)
 
 wrap_spot : (space : ℕ) (c : Context) (ps : List Plain) (found : Found) → LayersRoom (bares c) → layers (bares c) + space ≤ limit (levels (bares c)) → Spotted (wrap space c ps found).around (wrap space c ps found).redex
 wrap_spot space c [] found h g = enter_spot space c found h g

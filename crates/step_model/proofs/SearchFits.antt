@@ -7,9 +7,8 @@ use Rattle.term_model.specs.declared.frame.Frame.{Frame}
 use Rattle.term_model.specs.declared.frame.Frame.TheVariants as frame
 use Rattle.term_model.specs.declared.plain.Cluster.{Cluster}
 use Rattle.term_model.specs.declared.plain.Plain.TheVariants as plain
-use Rattle.term_model.specs.Handlers.{From, HandlerAt, How, find_handler, first_for, handlers_of, in_layer, or_further, past_mark}
+use Rattle.term_model.specs.Handlers.{From, HandlerAt, How, find_handler, first_for, handlers_of, in_layer, or_further, past_mark, takes}
 use Rattle.term_model.specs.Levels.{Called, Framed, Level, Served, Shown, current_level, framed_by, frames, frames_from, shown_in}
-use Rattle.type_tests.specs.Kinds.{is_kind}
 use Rattle.term_model.specs.Search.{layer_at}
 use Rattle.term_model.specs.Term.{Context}
 use Rattle.step_model.specs.Facts.{HasClauses, IsCall, TakesValue, bare, bares, named_in, names_handlers}
@@ -31,9 +30,9 @@ if_is : (b : Bool) (n : ℕ) (o p : Option HandlerAt) → LayerIs n o → LayerI
 if_is true n o p h g = h
 if_is false n o p h g = g
 
-first_is : (kind : TypeId) (n i : ℕ) (hs : List (TypeId × How)) → LayerIs n (first_for kind n i hs)
+first_is : (kind : TypeId) (n i : ℕ) (hs : List (Option TypeId × How)) → LayerIs n (first_for kind n i hs)
 first_is kind n i [] = tt
-first_is kind n i (h ∷ hs) = if_is (is_kind kind h.0) n _ _ refl (first_is kind n (i + 1) hs)
+first_is kind n i (h ∷ hs) = if_is (takes kind h.0) n _ _ refl (first_is kind n (i + 1) hs)
 
 in_layer_is : (kind : TypeId) (from : From) (n : ℕ) (cluster : Cluster) → LayerIs n (in_layer kind from n cluster)
 in_layer_is kind from n cluster =

@@ -21,7 +21,7 @@ use Rattle.term_model.specs.Restarts.{Leaving, abort, abort_exit, by_action, by_
 use Rattle.term_model.specs.Search as sight
 use Rattle.term_model.specs.Search.{Sight, layer_at, nearest, seen}
 use Rattle.term_model.specs.Targets.{block_in, catch_in, find_block, find_catch}
-use Rattle.lisp_sequences.specs.Same.{same_symbol, same_value}
+use Rattle.lisp_data.specs.Same.{same_symbol, same_value}
 use Rattle.term_model.specs.Term.{Context}
 use Rattle.step_model.specs.Facts.{HasClauses, IsCall, IsRequest, LayerFits, LayersFit, TakesValue, TargetFits, bare, bares, waits}
 use Rattle.step_model.proofs.BareLemmas.{length-bares}
@@ -299,7 +299,7 @@ restarts_at n offers c e = layer_at-bares n c ∙ ap (option_map bare) e
 action_fits : (n i : ℕ) (vs : List Value) (a : Action) (offers : List Offer) (c : Context) → 1 ≤ n → layer_at n c ≡ Some (frame.On (plain.Restarts offers)) → LeavingFits (Some (by_action n i vs a)) (bares c)
 action_fits n i vs (Give (outcome.Value v)) offers c h e = (h, subst TakesValue (sym (restarts_at n offers c e)) tt)
 action_fits n i vs (Give (outcome.Reply r)) offers c h e = (h, subst TakesValue (sym (restarts_at n offers c e)) tt)
-action_fits n i vs (Run parameters es) offers c h e = (h, subst HasClauses (sym (restarts_at n offers c e)) tt)
+action_fits n i vs (Run clause) offers c h e = (h, subst HasClauses (sym (restarts_at n offers c e)) tt)
 
 offer_fits : (n i : ℕ) (vs : List Value) (o : Option Offer) (offers : List Offer) (c : Context) → 1 ≤ n → layer_at n c ≡ Some (frame.On (plain.Restarts offers)) → LeavingFits (by_offer n i vs o) (bares c)
 offer_fits n i vs None offers c h e = tt

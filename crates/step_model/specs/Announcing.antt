@@ -2,7 +2,7 @@
 use Rattle.std.specs.Prelude.{ℕ, ◌+◌, ◌==◌, true, if◌then◌else◌, List, [], ◌∷◌, ◌++◌, map, take, codes}
 use Rattle.lisp_data.specs.declared.value.Value as value
 use Rattle.lisp_data.specs.declared.value.Condition.{Condition}
-use Rattle.lisp_types.specs.Types.{name_of}
+use Rattle.lisp_data.specs.TypeNames.{name_of}
 use Rattle.rpc_messages.specs.Cut.{cut}
 use Rattle.rpc_messages.specs.declared.to_emacs.FrameLine.{FrameLine}
 use Rattle.rpc_messages.specs.declared.to_emacs.RestartLine.{RestartLine}
@@ -10,7 +10,7 @@ use Rattle.rpc_messages.specs.declared.to_emacs.ToEmacs.{ToEmacs}
 use Rattle.rpc_messages.specs.declared.to_emacs.ToEmacs.TheVariants as message
 use Rattle.sexp_printer.specs.Printed.{shown}
 use Rattle.sexp_printer.specs.UserText.{user_text}
-use Rattle.syntax_trees.specs.Symbols.{value_of_symbol}
+use Rattle.lisp_data.specs.Symbols.{value_of_symbol}
 use Rattle.term_model.specs.declared.restart.Restart.{Restart}
 use Rattle.term_model.specs.Label.{Label, Out}
 use Rattle.term_model.specs.Levels.{Framed, Shown, Called, Served, frames, pending_ids}

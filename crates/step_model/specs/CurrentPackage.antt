@@ -16,7 +16,7 @@ use Rattle.lisp_data.specs.declared.value.Value.TheViews.{out-Value}
 use Rattle.lisp_data.specs.declared.value.Condition.{Condition}
 use Rattle.lisp_packages.specs.declared.lisp_package.Package.{Package}
 use Rattle.lisp_packages.specs.Packages.{name_at, place_of}
-use Rattle.syntax_trees.specs.Symbols.{cl}
+use Rattle.lisp_data.specs.Symbols.{cl}
 use Rattle.term_model.specs.Term.{Context}
 use Rattle.term_model.specs.Variables.{dynamic}
 use Rattle.step_model.specs.Image.{ImageState, global}

@@ -12,7 +12,7 @@ use Rattle.term_model.specs.declared.kept.Saved.TheVariants as saved
 use Rattle.term_model.specs.declared.plain.Plain.{Plain}
 use Rattle.term_model.specs.declared.plain.Plain.TheVariants as plain
 use Rattle.term_model.specs.Breaks.{may_open}
-use Rattle.term_model.specs.GoingIn.{nil}
+use Rattle.lisp_data.specs.Parts.{nil}
 use Rattle.term_model.specs.Search.{layer_at}
 use Rattle.term_model.specs.Term.{Context}
 

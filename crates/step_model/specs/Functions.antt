@@ -18,7 +18,8 @@ use Rattle.lisp_packages.specs.Naming.{in_named}
 use Rattle.lisp_packages.specs.Packages.{accessible, place_of}
 use Rattle.lisp_packages.specs.declared.lisp_package.Package.{Package}
 use Rattle.sexp_printer.specs.UserText.{user_text}
-use Rattle.syntax_trees.specs.Symbols.{cl, is_keyword, is_nil, names, value_of_symbol}
+use Rattle.lisp_types.specs.Kinds.{is_kind, type_by_name}
+use Rattle.lisp_data.specs.Symbols.{cl, is_keyword, is_nil, is_of_common_lisp, names, value_of_symbol}
 use Rattle.syntax_trees.specs.declared.ast.Ast.{Ast}
 use Rattle.term_model.specs.declared.focus.Focus.TheVariants as focus
 use Rattle.term_model.specs.declared.found.Found.TheVariants.{Here}
@@ -28,14 +29,15 @@ use Rattle.term_model.specs.declared.plain.Plain.TheVariants as plain
 use Rattle.term_model.specs.declared.question.Ask.TheVariants as question
 use Rattle.term_model.specs.declared.restart.Action.TheVariants.{Give}
 use Rattle.term_model.specs.declared.restart.Offer.{Offer}
-use Rattle.term_model.specs.GoingIn.{body, look, nil}
+use Rattle.lisp_data.specs.Parts.{nil, truth, yes}
+use Rattle.term_model.specs.GoingIn.{body, look}
 use Rattle.term_model.specs.Restarts.{Leaving, abort_exit, find_restart, invoking, visible}
 use Rattle.term_model.specs.Variables.{dynamic}
 use Rattle.step_model.specs.declared.machine_function.MachineFunction.{MachineFunction}
 use Rattle.step_model.specs.declared.machine_function.MachineFunction.TheVariants as f
 use Rattle.step_model.specs.Act.{Act, Goes, Raises, Asks, Exits, Changes, Sets}
 use Rattle.step_model.specs.Image.{Function, function, global, with_packages}
-use Rattle.step_model.specs.Kinds.{current, gives_value, gives_made, prints, truth_value, yes, is_true, unless_too_large, wrong, with_symbol, with_string, with_list, with_condition, with_designated, or_raise, or_refuse}
+use Rattle.step_model.specs.Kinds.{current, gives_value, gives_made, prints, is_true, unless_too_large, wrong, with_symbol, with_string, with_list, with_condition, with_designated, or_raise, or_refuse}
 use Rattle.step_model.specs.MachineFunctions.{machine_function, machine_name}
 use Rattle.step_model.specs.Now.{Now}
 use Rattle.step_model.specs.Perform.{continue}
@@ -91,9 +93,10 @@ gives_or None otherwise = otherwise
 abbrev pub unbound : Now → Symbol → Act
 unbound n s = Raises (unbound_variable (current n) (value_of_symbol s))
 
-abbrev pub constant_or : Now → Symbol → Bool → Act
-constant_or n s true = gives_value (value_of_symbol s)
-constant_or n s false = unbound n s
+-- a constant's value is itself, whatever `set` was given for it
+abbrev pub symbol_value : Now → Symbol → Bool → Act
+symbol_value n s true = gives_value (value_of_symbol s)
+symbol_value n s false = gives_or (value_now n s) (unbound n s)
 
 -- the image with these packages, and a value
 abbrev pub named_value : Now → List Package × Symbol → Act
@@ -130,12 +133,22 @@ made_condition n datum (Some (Ok v)) act = with_condition n v act
 made_condition n datum (Some (Err c)) act = Raises c
 made_condition n datum None act = wrong n datum wanted.Condition
 
--- the condition of a datum and arguments: a control text makes one of this type, a symbol one of its type, and a condition is itself
--- (HyperSpec 9.1.2.1)
+-- whether a symbol names a type of conditions (HyperSpec 9.1.1)
+abbrev pub is_condition_type : Option TypeId → Bool
+is_condition_type (Some kind) = is_kind kind type.Condition
+is_condition_type None = false
+
+abbrev pub names_condition : Symbol → Bool
+names_condition s = is_of_common_lisp s && is_condition_type (type_by_name s.name)
+
+-- the condition of a datum and arguments: a control text makes one of this type, a symbol one of the type that it names, and a condition is
+-- itself (HyperSpec 9.1.2.1). The datum is looked at before the arguments
 abbrev pub datum_condition : Rules → Now → TypeId → Value → List Value → (Condition → Act) → Value-F Value Condition → Act
 datum_condition rules n kind datum vs act (Value-F.Str control) =
     or_raise (rules.formatted (current n) control vs) (λ text. limited_condition (without_datum kind text) act)
-datum_condition rules n kind datum vs act (Value-F.Sym s) = made_condition n datum (rules.outcome (current n) (cl (codes "MAKE-CONDITION")) (datum ∷ vs)) act
+datum_condition rules n kind datum vs act (Value-F.Sym s) =
+    if names_condition s then made_condition n datum (rules.outcome (current n) (cl (codes "MAKE-CONDITION")) (datum ∷ vs)) act
+    else wrong n datum wanted.Condition
 datum_condition rules n kind datum vs act (Value-F.Cond c) = act c
 datum_condition rules n kind datum vs act _ = wrong n datum wanted.Condition
 
@@ -191,12 +204,12 @@ called rules n f.Mapcar (g ∷ list ∷ []) = with_symbol n g (λ s. with_list n
 called rules n f.Mapc (g ∷ list ∷ []) = with_symbol n g (λ s. with_list n list (λ items. maps s items 0 None))
 -- the form, without lexical variables
 called rules n f.Eval (form ∷ []) = with_tree n (rules.tree form) (λ e. Goes (plain.Eval ∷ []) (look e))
--- the dynamic or global value
-called rules n f.SymbolValue (v ∷ []) = with_symbol n v (λ s. gives_or (value_now n s) (constant_or n s (is_constant s)))
+-- the symbol's own, else the dynamic or global value
+called rules n f.SymbolValue (v ∷ []) = with_symbol n v (λ s. symbol_value n s (is_constant s))
 called rules n f.Set (v ∷ x ∷ []) = with_symbol n v (λ s. Sets s x (gives_value x))
-called rules n f.Boundp (v ∷ []) = with_symbol n v (λ s. gives_value (truth_value (is_some (value_now n s) || is_constant s)))
+called rules n f.Boundp (v ∷ []) = with_symbol n v (λ s. gives_value (truth (is_some (value_now n s) || is_constant s)))
 called rules n f.Fboundp (v ∷ []) =
-    with_symbol n v (λ s. gives_value (truth_value (is_some (function n.image s) || rules.is_one_step s || is_some (machine_function s))))
+    with_symbol n v (λ s. gives_value (truth (is_some (function n.image s) || rules.is_one_step s || is_some (machine_function s))))
 -- the symbol of a name in the current package, made where there is none; or looked up
 called rules n f.Intern (v ∷ []) =
     with_string n v (λ name. or_refuse (in_named n.image.packages (current n) (λ i. intern_at n.image.packages i name)) (named_value n))

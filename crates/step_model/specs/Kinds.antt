@@ -12,9 +12,9 @@ use Rattle.lisp_errors.specs.declared.wanted.Wanted.{Wanted}
 use Rattle.lisp_errors.specs.declared.wanted.Wanted.TheVariants as wanted
 use Rattle.lisp_packages.specs.declared.fault.NameFault.{NameFault}
 use Rattle.lisp_packages.specs.declared.fault.NameFault.TheVariants as fault
-use Rattle.syntax_trees.specs.Symbols.{cl}
+use Rattle.lisp_data.specs.Symbols.{cl}
 use Rattle.term_model.specs.declared.found.Found.TheVariants.{Already}
-use Rattle.term_model.specs.GoingIn.{nil}
+use Rattle.lisp_data.specs.Parts.{nil}
 use Rattle.step_model.specs.Act.{Act, Goes, Raises, Writes}
 use Rattle.step_model.specs.CurrentPackage.{current_package}
 use Rattle.step_model.specs.Now.{Now}
@@ -26,12 +26,6 @@ current n = current_package n.image n.context
 
 abbrev pub gives_value : Value → Act
 gives_value v = Goes [] (Already v)
-
-abbrev pub yes : Value
-yes = value.Sym (cl (codes "T"))
-
-abbrev pub truth_value : Bool → Value
-truth_value b = if b then yes else nil
 
 -- every value but NIL is true (HyperSpec, glossary, "generalized boolean")
 abbrev pub is_true_in : Value-F Value Condition → Bool

@@ -4,6 +4,7 @@ pub mod Now
 pub mod CurrentPackage
 pub mod Announcing
 pub mod Act
+pub mod Decision
 pub mod Perform
 pub mod MachineFunctions
 pub mod Kinds

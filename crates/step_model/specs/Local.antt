@@ -1,11 +1,15 @@
 -- Steps that a thread makes by itself: they read and change nothing but its term. They tell nothing, and no layer is made or left that
 -- the laws look at.
-use Rattle.std.specs.Prelude.{Bool, true, false, ◌&&◌, not, if◌then◌else◌, is_some, List, [], ◌∷◌, Option, Some, None, option_map, option_and_then}
+use Rattle.std.specs.Prelude.{◌-◌, slice_get, Bool, true, false, ◌&&◌, not, if◌then◌else◌, is_some, List, [], ◌∷◌, Option, Some, None, option_map, option_and_then}
 use Rattle.lisp_data.specs.declared.value.Value.{Value}
 use Rattle.rpc_messages.specs.declared.pattern.Pattern.TheVariants as pattern
-use Rattle.syntax_trees.specs.declared.ast.Ast.{Ast}
-use Rattle.syntax_trees.specs.declared.ast.Ast.TheOpen.{Ast-F}
-use Rattle.syntax_trees.specs.declared.ast.Ast.TheViews.{out-Ast}
+use Rattle.lisp_data.specs.declared.symbol.Symbol.{Symbol}
+use Rattle.syntax_trees.specs.declared.row.Bare.{Bare}
+use Rattle.syntax_trees.specs.declared.row.Bare.TheVariants as bare
+use Rattle.syntax_trees.specs.declared.row.Holder.TheVariants as holder
+use Rattle.syntax_trees.specs.declared.row.Named.TheVariants as named
+use Rattle.syntax_trees.specs.declared.row.Row.{Row}
+use Rattle.syntax_trees.specs.declared.row.Row.TheVariants as row
 use Rattle.term_model.specs.declared.focus.Focus.{Focus}
 use Rattle.term_model.specs.declared.focus.Focus.TheVariants as focus
 use Rattle.term_model.specs.declared.found.Found.{Found}
@@ -16,6 +20,7 @@ use Rattle.term_model.specs.declared.kept.Outcome.TheVariants as outcome
 use Rattle.term_model.specs.declared.plain.Plain.{Plain}
 use Rattle.term_model.specs.declared.plain.Plain.TheVariants as plain
 use Rattle.term_model.specs.GoingIn.{resumed}
+use Rattle.term_model.specs.Progress.{Progress}
 use Rattle.term_model.specs.Room.{Entered, is_within, room, wrap}
 use Rattle.term_model.specs.Term.{Context}
 use Rattle.term_model.specs.Variables.{lexical, with_lexical}
@@ -91,16 +96,46 @@ is_local rules c f = is_some (step_alone rules c f)
 
 -- ---- the redexes that a thread has to step by itself, where there is room
 
-abbrev pub is_listed_form : Context → Ast-F Ast → Bool
-is_listed_form c (Ast-F.Progn []) = true
-is_listed_form c (Ast-F.Cond []) = true
-is_listed_form c (Ast-F.And []) = true
-is_listed_form c (Ast-F.Or []) = true
-is_listed_form c (Ast-F.Loop es) = true
-is_listed_form c (Ast-F.DoTimes x count es) = true
-is_listed_form c (Ast-F.DoList x list es) = true
-is_listed_form c (Ast-F.Variable x) = is_some (lexical x c)
-is_listed_form c _ = false
+-- the first value, where there is one, is of a kind
+abbrev pub is_none_or : (Value → Bool) → List Value → Bool
+is_none_or test [] = true
+is_none_or test (v ∷ vs) = test v
+
+abbrev pub is_integer : Value → Bool
+is_integer v = is_some (integer_of v)
+
+abbrev pub is_list : Value → Bool
+is_list v = is_some (list_of v)
+
+abbrev pub is_listed_bare : Bare → Bool
+is_listed_bare bare.If = true
+is_listed_bare bare.When = true
+is_listed_bare bare.Unless = true
+is_listed_bare bare.Cond = true
+is_listed_bare bare.And = true
+is_listed_bare bare.Or = true
+is_listed_bare bare.Progn = true
+is_listed_bare bare.Loop = true
+is_listed_bare _ = false
+
+-- a pair of `setq` on a lexical variable
+abbrev pub is_lexical_in : Context → Option Symbol → Bool
+is_lexical_in c (Some x) = is_some (lexical x c)
+is_lexical_in c None = false
+
+abbrev pub is_listed_setq : Context → List Symbol → Progress → List Value → Bool
+is_listed_setq c names p [] = false
+is_listed_setq c names p (v ∷ vs) = is_lexical_in c (slice_get names (p.done - 1))
+
+abbrev pub is_listed_form : Rules → Context → Row → Progress → Bool
+is_listed_form rules c (row.Bare b) p = is_listed_bare b
+is_listed_form rules c (row.Held holder.DoTimes x) p = is_none_or is_integer p.values
+is_listed_form rules c (row.Held holder.DoList x) p = is_none_or is_list p.values
+is_listed_form rules c (row.Variable x) p = is_some (lexical x c)
+is_listed_form rules c (row.Setq names) p = is_listed_setq c names p p.values
+-- `+ - * 1+ 1- = < > <= >= null not eq car cdr`, where they raise nothing
+is_listed_form rules c (row.Named named.Call g) p = is_some (rules.alone g p.values)
+is_listed_form rules c _ p = false
 
 -- a lexical binding, a block, a call of a user function
 abbrev pub is_listed_marker : Context → Bool
@@ -111,18 +146,9 @@ is_listed_marker _ = false
 
 abbrev pub is_listed : Rules → Context → Focus → Bool
 is_listed rules c (focus.Given (outcome.Value v)) = is_listed_marker c
-is_listed rules c (focus.Form a) = is_listed_form c (out-Ast a)
-is_listed rules c (focus.Progn v es) = true
-is_listed rules c (focus.If test chosen otherwise) = true
-is_listed rules c (focus.When test es) = true
-is_listed rules c (focus.Unless test es) = true
-is_listed rules c (focus.Cond test es cs) = true
-is_listed rules c (focus.And v es) = true
-is_listed rules c (focus.Or v es) = true
+is_listed rules c (focus.Form p) = is_listed_form rules c p.row p
 is_listed rules c (focus.Loop es) = true
-is_listed rules c (focus.DoTimes x i count es) = is_some (integer_of count)
-is_listed rules c (focus.DoList x i list es) = is_some (list_of list)
-is_listed rules c (focus.Setq x v ps) = is_some (lexical x c)
--- `+ - * 1+ 1- = < > <= >= null not eq car cdr`, where they raise nothing
+is_listed rules c (focus.DoTimes x i count es) = is_integer count
+is_listed rules c (focus.DoList x i list es) = is_list list
 is_listed rules c (focus.Apply g vs) = is_some (rules.alone g vs)
 is_listed rules c f = false

@@ -2,7 +2,7 @@
 use Rattle.std.specs.Prelude.{ℕ, if◌then◌else◌, List, Option, None, codes, find}
 use Rattle.std.specs.Str.{bytes_eq}
 use Rattle.lisp_data.specs.declared.symbol.Symbol.{Symbol}
-use Rattle.syntax_trees.specs.Symbols.{is_of_common_lisp}
+use Rattle.lisp_data.specs.Symbols.{is_of_common_lisp}
 use Rattle.step_model.specs.declared.machine_function.MachineFunction.{MachineFunction}
 use Rattle.step_model.specs.declared.machine_function.MachineFunction.TheVariants as f
 use Rattle.step_model.specs.declared.machine_function.TheConstants.{MACHINE_FUNCTIONS}

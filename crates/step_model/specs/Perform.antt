@@ -19,9 +19,10 @@ use Rattle.rpc_messages.specs.declared.to_emacs.Returned.TheVariants as returned
 use Rattle.rpc_messages.specs.declared.to_emacs.ToEmacs.{ToEmacs}
 use Rattle.rpc_messages.specs.declared.to_emacs.ToEmacs.TheVariants as message
 use Rattle.syntax_trees.specs.declared.ast.Ast.{Ast}
-use Rattle.syntax_trees.specs.declared.ast.Ast.TheViews.{out-Ast}
-use Rattle.syntax_trees.specs.declared.ast.HandlerClause.{HandlerClause}
-use Rattle.syntax_trees.specs.Symbols.{cl}
+use Rattle.syntax_trees.specs.declared.row.Row.{Row}
+use Rattle.syntax_trees.specs.declared.row.Row.TheVariants as row
+use Rattle.syntax_trees.specs.Places.{row_of, forms_of}
+use Rattle.lisp_data.specs.Symbols.{cl}
 use Rattle.term_model.specs.declared.focus.Focus.{Focus}
 use Rattle.term_model.specs.declared.focus.Focus.TheVariants as focus
 use Rattle.term_model.specs.declared.found.Found.{Found}
@@ -44,7 +45,8 @@ use Rattle.term_model.specs.declared.restart.Action.TheVariants.{Give, Run}
 use Rattle.term_model.specs.declared.restart.Offer.{Offer}
 use Rattle.term_model.specs.Breaks.{may_open}
 use Rattle.term_model.specs.Exit.{Left, distance, leave, stir}
-use Rattle.term_model.specs.GoingIn.{body, look, nil, resumed, value_in}
+use Rattle.lisp_data.specs.Parts.{nil}
+use Rattle.term_model.specs.GoingIn.{body, look, resumed, value_in}
 use Rattle.term_model.specs.Label.{Label, Took, Ended, Out, Opened, Cleanup}
 use Rattle.term_model.specs.Restarts.{abort_exit}
 use Rattle.term_model.specs.Room.{is_within, levels, room, wrap}
@@ -122,19 +124,29 @@ abbrev pub condition_bound : Option Symbol → List Value → List Plain
 condition_bound None vs = []
 condition_bound (Some x) vs = plain.Lexical x (nil_or (slice_get vs 0)) ∷ []
 
-abbrev pub runs_handler : Now → Option (HandlerClause Ast) → List Value → Now
+-- the bindings of a clause of `handler-case` and of one of `restart-case`; no other node is run as a clause
+abbrev pub clause_bound : Row → List Value → List Plain
+clause_bound (row.HandlerClause kind x) vs = condition_bound x vs
+clause_bound (row.RestartClause name parameters report) vs = parameters_bound parameters vs
+clause_bound _ vs = []
+
+-- the body of a clause, inside the bindings of its parameters
+abbrev pub runs : Now → Ast → List Value → Now
+runs n clause vs = goes n (clause_bound (row_of clause) vs) (body (forms_of clause))
+
+abbrev pub runs_handler : Now → Option Ast → List Value → Now
 runs_handler n None vs = goes n [] (Already nil)
-runs_handler n (Some clause) vs = goes n (condition_bound clause.variable vs) (body clause.body)
+runs_handler n (Some clause) vs = runs n clause vs
 
 abbrev pub runs_action : Now → Action → List Value → Now
 runs_action n (Give o) vs = gives n o
-runs_action n (Run parameters es) vs = goes n (parameters_bound parameters vs) (body es)
+runs_action n (Run clause) vs = runs n clause vs
 
 abbrev pub runs_offer : Now → Option Offer → List Value → Now
 runs_offer n None vs = goes n [] (Already nil)
 runs_offer n (Some offer) vs = runs_action n offer.action vs
 
--- the clause of this number of the exit's target, in its place
+-- the clause of this number of the exit's target, in its place; the one of `ignore-errors` gives NIL
 abbrev pub runs_clause : Now → Option Frame → ℕ → List Value → Now
 runs_clause n (Some (frame.On (plain.Handlers (Clauses clauses)))) i vs = runs_handler n (slice_get clauses i) vs
 runs_clause n (Some (frame.On (plain.Restarts offers))) i vs = runs_offer n (slice_get offers i) vs
@@ -228,7 +240,7 @@ protects_value n (Some v) cleanup = puts (record n { serial = n.serial + 1 }) (f
 protects_value n None cleanup = exhausted n
 
 abbrev pub protects : Now → ℕ → Ast → List Ast → Now
-protects n zero e cleanup = protects_value n (value_in (out-Ast e)) cleanup
+protects n zero e cleanup = protects_value n (value_in e) cleanup
 protects n (suc space) e cleanup = goes (around (record n { serial = n.serial + 1 }) (frame.Protect n.serial cleanup ∷ n.context)) [] (look e)
 
 -- what asking writes, and what the question then waits for

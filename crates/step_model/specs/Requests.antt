@@ -1,15 +1,17 @@
 -- The rows of requests: what the request's function says is to be done, the forms of its text, and the reply that their value makes.
-use Rattle.std.specs.Prelude.{ℕ, ℤ, pos, negsuc, ◌==◌, Bool, true, false, List, [], ◌∷◌, ◌++◌, Option, Some, None, unwrap_or, slice_get}
+use Rattle.std.specs.Prelude.{ℕ, ℤ, pos, negsuc, ◌==◌, Bool, true, false, List, [], ◌∷◌, ◌++◌, Option, Some, None, Result, unwrap_or, slice_get}
 use Rattle.lisp_data.specs.declared.sexp.Sexp.{Sexp}
 use Rattle.lisp_data.specs.declared.sexp.Sexp.TheVariants as form
 use Rattle.lisp_data.specs.declared.symbol.Symbol.{Symbol}
 use Rattle.lisp_data.specs.declared.value.Value.{Value}
+use Rattle.lisp_data.specs.declared.value.Condition.{Condition}
 use Rattle.lisp_packages.specs.Naming.{in_named, valued}
 use Rattle.lisp_packages.specs.declared.lisp_package.Package.{Package}
 use Rattle.sexp_reader.specs.declared.placed.Placed.{Placed}
 use Rattle.syntax_trees.specs.declared.ast.Ast.{Ast}
-use Rattle.syntax_trees.specs.declared.ast.Ast.TheOpen.{Ast-F}
-use Rattle.syntax_trees.specs.declared.ast.Ast.TheViews.{out-Ast}
+use Rattle.syntax_trees.specs.declared.row.Row.{Row}
+use Rattle.syntax_trees.specs.declared.row.Row.TheVariants as row
+use Rattle.syntax_trees.specs.Places.{row_of}
 use Rattle.term_model.specs.declared.focus.Bound.{Bound}
 use Rattle.term_model.specs.declared.focus.Focus.TheVariants as focus
 use Rattle.term_model.specs.declared.focus.Origin.{Origin}
@@ -20,14 +22,15 @@ use Rattle.term_model.specs.declared.kept.Outcome.TheVariants as outcome
 use Rattle.term_model.specs.declared.plain.Plain.{Plain}
 use Rattle.term_model.specs.declared.plain.Plain.TheVariants as plain
 use Rattle.term_model.specs.declared.restart.Restart.{Restart}
-use Rattle.term_model.specs.GoingIn.{look, nil}
+use Rattle.lisp_data.specs.Parts.{nil}
+use Rattle.term_model.specs.GoingIn.{look}
 use Rattle.term_model.specs.Levels.{Framed, Level, Called, Served, Shown, current_level, frames, locals, served_form}
 use Rattle.term_model.specs.Restarts.{first_named, invoking, nothing_at, restarts_of_level}
 use Rattle.step_model.specs.Act.{Act, Goes, Gives, Raises, Exits, Closes, Writes, Changes, Inspects}
 use Rattle.step_model.specs.CurrentPackage.{package_variable}
 use Rattle.step_model.specs.Functions.{exits_or, with_tree}
 use Rattle.step_model.specs.Image.{with_global, with_packages}
-use Rattle.step_model.specs.Kinds.{current, gives_value, or_refuse}
+use Rattle.step_model.specs.Kinds.{current, gives_value, or_raise, or_refuse}
 use Rattle.step_model.specs.Now.{Now}
 use Rattle.step_model.specs.Rules.{Rules, Asked, Command, Answers, AnswersIn, Refuses, Evaluates, EvaluatesIn, EvaluatesToReturn, CallsAgain, InvokesNth, InvokesFirst, InvokesTop, Finish, Replies, Fails, LeavesFrame}
 use Rattle.step_model.specs.Rules as rules
@@ -79,6 +82,10 @@ evaluates forms origin kept = Goes (plain.Answer kept ∷ []) (Here (focus.Forms
 abbrev pub evaluates_in : List Placed → Sexp → Framed → Act
 evaluates_in forms kept f = Goes (plain.Answer kept ∷ plain.Eval ∷ copied (locals f)) (Here (focus.Forms forms None))
 
+-- the same of a text, where it reads
+abbrev pub evaluates_read : Result (List Placed) Condition → Sexp → Framed → Act
+evaluates_read read kept f = or_raise read (λ forms. evaluates_in forms kept f)
+
 -- only a call may be left or called again
 abbrev pub if_call : Shown → Act → Act
 if_call (Called g vs) act = act
@@ -120,8 +127,8 @@ commanded n (Answers inspected reply) = Inspects inspected (Gives (outcome.Reply
 commanded n (AnswersIn name reply) = Changes (with_global n.image package_variable name) (Gives (outcome.Reply reply))
 commanded n (Refuses condition) = Raises condition
 commanded n (Evaluates forms origin kept) = evaluates forms origin kept
-commanded n (EvaluatesIn i forms kept) = with_frame n i (evaluates_in forms kept)
-commanded n (EvaluatesToReturn i forms kept) = with_frame n i (λ f. if_call f.shown (evaluates_in forms kept f))
+commanded n (EvaluatesIn i read kept) = with_frame n i (evaluates_read read kept)
+commanded n (EvaluatesToReturn i read kept) = with_frame n i (λ f. if_call f.shown (evaluates_read read kept f))
 commanded n (CallsAgain i) = with_frame n i calls_frame
 commanded n (InvokesNth k i) = invokes_nth n k i
 commanded n (InvokesFirst name) = invokes_first n name
@@ -135,8 +142,8 @@ finished n v (Fails condition) = Raises condition
 finished n v (LeavesFrame i) = with_frame n i (leaves_frame v)
 
 -- a function's definition in a compiled text has its place there
-abbrev pub placed_found : Ast → Ast-F Ast → Option Origin → ℕ → Found
-placed_found a (Ast-F.Defun g ps es) (Some origin) at = Here (focus.DefunAt a origin at)
+abbrev pub placed_found : Ast → Row → Option Origin → ℕ → Found
+placed_found a (row.Defun g ps) (Some origin) at = Here (focus.DefunAt a origin at)
 placed_found a _ _ at = look a
 
 -- the first of these forms stands before the others
@@ -148,7 +155,7 @@ before_forms (p ∷ ps) origin = plain.Before (focus.Forms (p ∷ ps) origin) �
 abbrev pub resolved : Rules → Now → Placed → List Placed → Option Origin → List Package × Value → Act
 resolved rules n p ps origin found =
     Changes (with_packages n.image found.0)
-    (with_tree n (rules.tree found.1) (λ e. Goes (before_forms ps origin) (placed_found e (out-Ast e) origin p.at)))
+    (with_tree n (rules.tree found.1) (λ e. Goes (before_forms ps origin) (placed_found e (row_of e) origin p.at)))
 
 -- the forms of a text: the first is resolved in the current package and parsed
 abbrev pub forms_row : Rules → Now → List Placed → Option Origin → Act

@@ -13,7 +13,7 @@ use Rattle.step_model.specs.Facts.{bares}
 
 abbrev pub is_giving : Action → Bool
 is_giving (Give o) = true
-is_giving (Run parameters es) = false
+is_giving (Run clause) = false
 
 -- a layer with one restart that gives an outcome, as the one of an interrupt
 abbrev pub is_offering : Frame → Bool

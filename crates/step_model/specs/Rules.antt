@@ -9,7 +9,7 @@ use Rattle.lisp_packages.specs.declared.fault.NameFault.{NameFault}
 use Rattle.lisp_packages.specs.declared.lisp_package.Package.{Package}
 use Rattle.sexp_reader.specs.declared.placed.Placed.{Placed}
 use Rattle.syntax_trees.specs.declared.ast.Ast.{Ast}
-use Rattle.syntax_trees.specs.declared.ast.Designator.{Designator}
+use Rattle.syntax_trees.specs.declared.row.Designator.{Designator}
 use Rattle.term_model.specs.declared.focus.Origin.{Origin}
 use Rattle.term_model.specs.Term.{Context}
 use Rattle.step_model.specs.Image.{ImageState}
@@ -33,10 +33,10 @@ pub data Command : Type 0 where
   Refuses : Condition → Command
   -- to evaluate these forms, and to make the reply of the value and of what is kept
   Evaluates : List Placed → Option Origin → (kept : Sexp) → Command
-  -- the same with the variables of a frame of the level
-  EvaluatesIn : (frame : ℤ) → List Placed → (kept : Sexp) → Command
+  -- the same with the variables of a frame of the level; of a text that doesn't read the condition is raised once the frame was found
+  EvaluatesIn : (frame : ℤ) → Result (List Placed) Condition → (kept : Sexp) → Command
   -- the same, of a frame that is then to be left with the value
-  EvaluatesToReturn : (frame : ℤ) → List Placed → (kept : Sexp) → Command
+  EvaluatesToReturn : (frame : ℤ) → Result (List Placed) Condition → (kept : Sexp) → Command
   -- to call again in a frame
   CallsAgain : (frame : ℤ) → Command
   -- to invoke a restart of a level, by its place

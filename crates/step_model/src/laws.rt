@@ -1,7 +1,7 @@
 //! The laws of a thread's steps, as the clauses of functions that do nothing. They hold whatever the functions beside the thread give.
 ghost use Rattle.std.specs.Prelude.{◌≡◌, ◌+◌, ◌≤◌, [], ℤ, Some, true, is_some};
 ghost use Rattle.lisp_data.specs.declared.sexp.Sexp.TheVariants as form;
-ghost use Rattle.syntax_trees.specs.Symbols.{cl};
+ghost use Rattle.lisp_data.specs.Symbols.{cl};
 ghost use Rattle.rpc_messages.specs.declared.pattern.Pattern.TheVariants as pattern;
 ghost use Rattle.term_model.specs.Breaks.{broken_at, may_open};
 ghost use Rattle.term_model.specs.Levels.{current_level};

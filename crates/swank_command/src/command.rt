@@ -99,7 +99,7 @@ pub fn run<S: Source, K: Sink>(
         → IsDue result.status Status.JournalFull IsBroken (IsFull limits result.journal (run_of rules image result.journal)) }
 
     // Words that are no command run nothing.
-    ensures untouched { result.status ≡ Status.Usage
+    ensures untouched { limits_of words.now ≡ None
         → (input.new ≡ input.old) × (output.new ≡ output.old) × (result.journal ≡ []) × (result.image ≡ image) × (result.taken ≡ 0) × (result.sent ≡ 0) }
 
     // Over an input of whole packets, without faults and within the limits, a session ends well, or memory was wanting.

@@ -9,7 +9,6 @@ use std::alloc::Global;
 use std::marker::Model;
 
 /// What has happened in a session, in order. Contracts see the list of its entries.
-#[derive(Drop)]
 pub struct Journal {
     entries: Vec<Entry>,
     /// The last entry, where that is a drain: it stands here, so that adding it takes no memory.
@@ -30,6 +29,15 @@ impl Model for Journal {
     ghost view = { λ j. j.entries.items ++ option_to_list j.drain };
 
     ghost invariant = { λ j. IfSome j.drain (λ last. is_drain last.event ≡ true) };
+}
+
+impl Drop for Journal {
+    fn drop(self) {
+        let Journal {
+            entries: _,
+            drain: _,
+        } = self;
+    }
 }
 
 impl Journal {

@@ -17,7 +17,6 @@ use std::alloc::Global;
 use std::marker::Model;
 
 /// The image, the live threads, and the order in which requests were routed to the live workers.
-#[derive(Drop)]
 pub struct Live {
     image: Image,
     threads: Threads,
@@ -53,6 +52,16 @@ impl Model for Live {
     ghost invariant = { λ l. AreWorkers (length l.threads) (reverse l.workers.items) };
 }
 
+impl Drop for Live {
+    fn drop(self) {
+        let Live {
+            image: _,
+            threads: _,
+            workers: _,
+        } = self;
+    }
+}
+
 impl Live {
     /// What a session begins with: this image and the REPL's thread.
     pub fn new(alloc: Global, image: Image, threads: Threads) -> Live
@@ -69,7 +78,12 @@ impl Live {
     pub fn into_image(self) -> Image
         ensures { result ≡ self.image }
     {
-        self.image
+        let Live {
+            image,
+            threads: _,
+            workers: _,
+        } = self;
+        image
     }
 
     pub fn threads(&self) -> &Threads

@@ -14,7 +14,6 @@ use rpc_messages::FromEmacs;
 use std::alloc::Global;
 
 /// A live thread.
-#[derive(Drop)]
 pub struct Record {
     pub machine: Machine,
     pub mailbox: Mailbox,
@@ -22,6 +21,17 @@ pub struct Record {
     pub interrupts: u64,
     /// The seat to which the thread is lent.
     pub lent: Option<u64>,
+}
+
+impl Drop for Record {
+    fn drop(self) {
+        let Record {
+            machine: _,
+            mailbox: _,
+            interrupts: _,
+            lent: _,
+        } = self;
+    }
 }
 
 impl Record {
@@ -37,6 +47,19 @@ impl Record {
             interrupts: 0,
             lent: None,
         }
+    }
+
+    /// What it was sent and never took. The rest is dropped.
+    pub fn into_mailbox(self) -> Mailbox
+        ensures { result ≡ self.mailbox }
+    {
+        let Record {
+            machine: _,
+            mailbox,
+            interrupts: _,
+            lent: _,
+        } = self;
+        mailbox
     }
 
     /// Whether the thread can make a step: it doesn't wait for what isn't there.

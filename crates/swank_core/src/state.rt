@@ -23,7 +23,6 @@ use std::mem;
 use std::snapshot::Snapshot;
 
 /// A live session.
-#[derive(Drop)]
 pub struct Core {
     /// The image that it was opened with, for contracts alone.
     opened: Snapshot<Image>,
@@ -58,6 +57,24 @@ impl Model for Core {
     ghost view = { λ c. record { opened = c.opened.value; limits = c.limits; journal = c.journal; failed = c.failed; halted = c.halted } };
 
     ghost invariant = { λ c. Ties (run rules c.opened.value c.journal) c.journal c.live c.outs c.steps c.steps_after_end c.ended c.failed × Fits c.journal c.outs c.steps c.steps_after_end c.limits × HasLegal c.opened.value c.journal };
+}
+
+impl Drop for Core {
+    fn drop(self) {
+        let Core {
+            opened: _,
+            limits: _,
+            alloc: _,
+            live: _,
+            outs: _,
+            journal: _,
+            steps: _,
+            steps_after_end: _,
+            ended: _,
+            failed: _,
+            halted: _,
+        } = self;
+    }
 }
 
 impl Core {
@@ -338,6 +355,19 @@ impl Core {
         ensures legal { IsLegalFrom rules self.opened self.journal }
         ensures image { self.failed ≡ false → result.0 ≡ (world self).image }
     {
-        (self.live.into_image(), self.journal)
+        let Core {
+            opened: _,
+            limits: _,
+            alloc: _,
+            live,
+            outs: _,
+            journal,
+            steps: _,
+            steps_after_end: _,
+            ended: _,
+            failed: _,
+            halted: _,
+        } = self;
+        (live.into_image(), journal)
     }
 }

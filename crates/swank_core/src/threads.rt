@@ -20,7 +20,6 @@ use std::alloc::Global;
 use std::marker::Model;
 
 /// The live threads. Contracts see the list of all threads by number, None where one has ended, or where there is none, as at 0.
-#[derive(Drop)]
 pub struct Threads {
     /// In order of number.
     records: Vec<Record>,
@@ -45,6 +44,15 @@ impl Model for Threads {
     ghost view = { λ t. threads_of t.next t.records.items };
 
     ghost invariant = { λ t. AreKept t.next t.records.items };
+}
+
+impl Drop for Threads {
+    fn drop(self) {
+        let Threads {
+            records: _,
+            next: _,
+        } = self;
+    }
 }
 
 /// The place of the first thread with this number or a later one.
@@ -223,7 +231,7 @@ impl Threads {
                 Ok(run) => {
                     if run.over {
                         let ended = self.records.remove(place);
-                        sweep(alloc, ended.mailbox, outs)?;
+                        sweep(alloc, ended.into_mailbox(), outs)?;
                         return Ok(run);
                     }
                     self.records[place].give_back();

@@ -128,36 +128,67 @@ struct Session {
     output: Rows<u8>,
 }
 
-/// A payload, in which `<LF>` stands for a newline.
-fn payload(alloc: Global, line: &str) -> Result<Text, NoMemory> {
-    let mut text = Text::new(alloc);
-    let mut parts = line.split("<LF>");
-    if let Some(first) = parts.next() {
-        text.push_str(first)?;
+/// A line with so many copies of a part in each place of a mark.
+fn filled(
+    alloc: Global,
+    line: &str,
+    mark: &str,
+    part: &str,
+    count: usize,
+) -> Result<Text, NoMemory> {
+    if !line.contains(mark) {
+        return Text::of(alloc, line);
     }
-    for part in parts {
-        text.push_str("\n")?;
-        text.push_str(part)?;
-    }
-    Ok(text)
+    let with = part.repeat(alloc, count)?;
+    let text = line.replace(alloc, mark, with.as_str())?;
+    Text::of(alloc, text.as_str())
 }
 
-fn add_packet(alloc: Global, octets: &mut Rows<u8>, line: &str) -> Result<(), NoMemory> {
-    let text = payload(alloc, line)?;
+/// The payload of a line: `<N>` is the turn's number, `<LF>` a newline, `<OPEN>` 500 parentheses, `<LONG>` a number of 2^20 digits, and
+/// `<MANY>` 52,500 symbols, each of which prints as one that is twice as long where COMMON-LISP is current.
+fn payload(alloc: Global, line: &str, turn: u64) -> Result<Text, NoMemory> {
+    let number = format!(in alloc; "{turn}")?;
+    let numbered = filled(alloc, line, "<N>", number.as_str(), 1)?;
+    let lines = filled(alloc, numbered.as_str(), "<LF>", "\n", 1)?;
+    let open = filled(alloc, lines.as_str(), "<OPEN>", "(", 500)?;
+    let long = filled(alloc, open.as_str(), "<LONG>", "1", 1_048_576)?;
+    filled(alloc, long.as_str(), "<MANY>", "cl-user::a ", 52_500)
+}
+
+fn add_packet(alloc: Global, octets: &mut Rows<u8>, line: &str, turn: u64) -> Result<(), NoMemory> {
+    let text = payload(alloc, line, turn)?;
     frame(octets, &text).map_err(|_| NoMemory)
 }
 
-/// A session as lines: behind `> ` a payload that goes in, behind `< ` one that must come out.
+/// Adds the packets of lines to a session: behind `> ` stands a payload that goes in, behind `< ` one that must come out.
+fn add_lines(alloc: Global, session: &mut Session, lines: &str, turn: u64) -> Result<(), NoMemory> {
+    for line in lines.lines() {
+        if let Some(payload) = line.strip_prefix("> ") {
+            add_packet(alloc, &mut session.input, payload, turn)?;
+        } else if let Some(payload) = line.strip_prefix("< ") {
+            add_packet(alloc, &mut session.output, payload, turn)?;
+        }
+    }
+    Ok(())
+}
+
+/// How many turns a block of lines has, which its first line may say behind `* `; 1 where it doesn't.
+fn turns_of(block: &str) -> u64 {
+    match block.lines().next() {
+        Some(first) => first.trim_start_matches("* ").parse().unwrap_or(1),
+        None => 1,
+    }
+}
+
+/// A session as lines, in blocks that each begin at a line `* COUNT`; such a block goes in so many times.
 fn session_of(alloc: Global, lines: &str) -> Result<Session, NoMemory> {
     let mut session = Session {
         input: Rows::new(alloc),
         output: Rows::new(alloc),
     };
-    for line in lines.lines() {
-        if let Some(payload) = line.strip_prefix("> ") {
-            add_packet(alloc, &mut session.input, payload)?;
-        } else if let Some(payload) = line.strip_prefix("< ") {
-            add_packet(alloc, &mut session.output, payload)?;
+    for block in lines.split("\n* ") {
+        for turn in 0..turns_of(block) {
+            add_lines(alloc, &mut session, block, turn)?;
         }
     }
     Ok(session)

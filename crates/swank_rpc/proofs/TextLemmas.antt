@@ -9,7 +9,7 @@ use Rattle.sexp_reader.specs.declared.fault.ReadFault.TheVariants.{End, Unclosed
 use Rattle.sexp_reader.specs.declared.placed.Placed.{Placed}
 use Rattle.sexp_reader.proofs.Exact.{exact-forms, not-both, one-fault, one-value}
 use Rattle.sexp_reader.proofs.Total.{all-or-fault}
-use Rattle.fault_names.specs.Names.{fault_name}
+use Rattle.sexp_reader.specs.Names.{fault_name}
 use Rattle.lisp_data.specs.declared.sexp.Sexp.{Sexp}
 use Rattle.lisp_data.specs.declared.value.Condition.{Condition}
 use Rattle.lisp_errors.specs.Causes.{reader_fault}

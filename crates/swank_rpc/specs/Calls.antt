@@ -2,6 +2,7 @@
 use Rattle.std.specs.Prelude.{ℕ, Bool, true, false, not, if◌then◌else◌, nat_lt, List, [], ◌∷◌, ◌++◌, codes, Option, Some, None}
 use Rattle.std.specs.Option.{option_map_or}
 use Rattle.std.specs.Str.{str_eq_ignore_ascii_case}
+use Rattle.lisp_data.specs.Parts.{form_text, form_token}
 use Rattle.lisp_data.specs.Sexp.{weight_of}
 use Rattle.lisp_data.specs.declared.sexp.Sexp.{Sexp}
 use Rattle.lisp_data.specs.declared.sexp.Sexp.TheOpen.{Sexp-F}
@@ -13,20 +14,15 @@ use Rattle.lisp_errors.specs.Causes.{undefined_function}
 use Rattle.lisp_errors.specs.Limits.{limited, max_weight}
 use Rattle.lisp_errors.specs.Texts.{without_datum}
 use Rattle.sexp_printer.specs.Printed.{shown}
-use Rattle.syntax_trees.specs.Symbols.{cl}
+use Rattle.lisp_data.specs.Symbols.{cl}
 use Rattle.swank_rpc.specs.Names.{is_unbuilt}
-
--- the token of a symbol
-abbrev pub token_in : Sexp-F Sexp → Option (List ℕ)
-token_in (Sexp-F.Sym token) = Some token
-token_in _ = None
 
 abbrev pub call_of : Option (List ℕ) → List Sexp → Option (List ℕ × List Sexp)
 call_of (Some token) arguments = Some (token, arguments)
 call_of None arguments = None
 
 abbrev pub call_in : Sexp-F Sexp → Option (List ℕ × List Sexp)
-call_in (Sexp-F.List (head ∷ arguments)) = call_of (token_in (out-Sexp head)) arguments
+call_in (Sexp-F.List (head ∷ arguments)) = call_of (form_token head) arguments
 call_in _ = None
 
 -- a form's head and its arguments, where it is a list with a symbol as head
@@ -48,14 +44,10 @@ abbrev pub is_quote : Sexp-F Sexp → Bool
 is_quote (Sexp-F.Sym token) = str_eq_ignore_ascii_case token (codes "QUOTE")
 is_quote _ = false
 
-abbrev pub text_in : Sexp-F Sexp → Option (List ℕ)
-text_in (Sexp-F.Str text) = Some text
-text_in _ = None
-
 -- an argument that is a string, as a literal or quoted
 abbrev pub text_of : Sexp-F Sexp → Option (List ℕ)
 text_of (Sexp-F.Str text) = Some text
-text_of (Sexp-F.List (mark ∷ quoted ∷ [])) = if is_quote (out-Sexp mark) then text_in (out-Sexp quoted) else None
+text_of (Sexp-F.List (mark ∷ quoted ∷ [])) = if is_quote (out-Sexp mark) then form_text quoted else None
 text_of _ = None
 
 -- the first argument, where it is a string. Further ones are ignored

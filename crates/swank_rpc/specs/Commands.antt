@@ -1,6 +1,6 @@
 -- What a request's function answers: SLIME's `swank.lisp`, function by function.
 use Rattle.std.specs.Prelude.{ℕ, Bool, true, false, if◌then◌else◌, List, [], ◌∷◌, Option, Some, None, option_map, Result, Ok, Err}
-use Rattle.fault_names.specs.Names.{fault_name}
+use Rattle.sexp_reader.specs.Names.{fault_name}
 use Rattle.lisp_data.specs.declared.sexp.Sexp.{Sexp}
 use Rattle.lisp_data.specs.declared.sexp.Sexp.TheVariants as form
 use Rattle.lisp_data.specs.declared.value.Value.{Value}

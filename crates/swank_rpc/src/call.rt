@@ -11,15 +11,12 @@ use lisp_errors::MAX_WEIGHT;
 pub fn parts(form: &Sexp) -> Option<(&Text, &[Sexp])>
     ensures { option_map (λ call. (call.0.now, call.1.now)) result ≡ calls.parts form.now }
 {
-    let Sexp::List(items) = form else {
-        return None;
-    };
-    match items.as_slice() {
-        [head, arguments @ ..] => match head {
-            Sexp::Sym(token) => Some((token, arguments)),
-            _ => None,
+    match form.as_list() {
+        Some([head, arguments @ ..]) => match head.as_symbol() {
+            Some(token) => Some((token, arguments)),
+            None => None,
         },
-        [] => None,
+        _ => None,
     }
 }
 
@@ -49,15 +46,6 @@ fn is_quote(form: &Sexp) -> bool
     }
 }
 
-fn text_in(form: &Sexp) -> Option<&Text>
-    ensures { option_copied result ≡ calls.text_in (out-Sexp form.now) }
-{
-    match form {
-        Sexp::Str(text) => Some(text),
-        _ => None,
-    }
-}
-
 /// An argument that is a string, as a literal or quoted.
 fn text_of(form: &Sexp) -> Option<&Text>
     ensures { option_copied result ≡ calls.text_of (out-Sexp form.now) }
@@ -67,7 +55,7 @@ fn text_of(form: &Sexp) -> Option<&Text>
         Sexp::List(items) => match items.as_slice() {
             [mark, quoted] => {
                 if is_quote(mark) {
-                    text_in(quoted)
+                    quoted.as_text()
                 } else {
                     None
                 }

@@ -15,7 +15,6 @@ use crate::text::evaluate;
 use lisp_data::{NoMemory, Sexp, Text};
 use lisp_errors::{bad_arguments, package_not_found, value_too_large};
 use lisp_image::Image;
-use server_info::nil;
 use std::alloc::Global;
 
 /// The function's arguments are missing, or not of the kind that it takes.
@@ -82,8 +81,8 @@ fn call_function(
         SwankFunction::ConnectionInfo => Ok(Answer::Value(connection_info(alloc, image)?)),
         SwankFunction::CreateRepl => Ok(Answer::Value(repl_package(alloc, image)?)),
         SwankFunction::SetPackage => set_named_package(alloc, arguments, image),
-        SwankFunction::SwankRequire => Ok(Answer::Value(nil(alloc))),
-        SwankFunction::BufferFirstChange => Ok(Answer::Value(nil(alloc))),
+        SwankFunction::SwankRequire => Ok(Answer::Value(Sexp::nil(alloc))),
+        SwankFunction::BufferFirstChange => Ok(Answer::Value(Sexp::nil(alloc))),
         SwankFunction::InteractiveEval => evaluate_argument(alloc, function, arguments, image),
         SwankFunction::InteractiveEvalRegion => evaluate_argument(
             alloc, function, arguments, image,

@@ -13,7 +13,6 @@ use lisp_data::{NoMemory, Rows, Sexp, Text, Value};
 use lisp_errors::value_too_large;
 use lisp_image::Image;
 use rpc_messages::ToEmacs;
-use server_info::{nil, string};
 use std::alloc::Global;
 
 const NO_VALUE: &str = "; No value";
@@ -33,7 +32,7 @@ fn reply(alloc: Global, has_form: bool, value: &Value, package: &Text) -> Result
     ensures { IfOk result (λ answer. answer ≡ answer_of (replies_value has_form value.now «package».now)) }
 {
     if !has_form {
-        return Ok(Answer::Value(string(alloc, NO_VALUE)?));
+        return Ok(Answer::Value(Sexp::string(alloc, NO_VALUE)?));
     }
     match value_text(alloc, "=> ", value, package, "")? {
         Some(text) => Ok(Answer::Value(Sexp::Str(text))),
@@ -75,7 +74,7 @@ fn write_text(
         repl_result: true,
     })?;
     tell_package(alloc, kept, image, outs)?;
-    Ok(Answer::Value(nil(alloc)))
+    Ok(Answer::Value(Sexp::nil(alloc)))
 }
 
 /// That there is no value, and a newline.
@@ -128,6 +127,6 @@ pub fn end_rpc(
         Some(SwankFunction::InteractiveEval) => reply(alloc, has_form(kept), &value, package),
         Some(SwankFunction::InteractiveEvalRegion) => reply(alloc, has_form(kept), &value, package),
         Some(SwankFunction::ListenerEval) => write_value(alloc, kept, &value, package, image, outs),
-        _ => Ok(Answer::Value(nil(alloc))),
+        _ => Ok(Answer::Value(Sexp::nil(alloc))),
     }
 }

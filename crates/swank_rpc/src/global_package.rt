@@ -11,7 +11,7 @@ use lisp_data::{NoMemory, Rows, Sexp, Symbol, Text, Value};
 use lisp_image::Image;
 use lisp_packages::Packages;
 use rpc_messages::cut;
-use server_info::{info, list, string};
+use server_info::info;
 use std::alloc::Global;
 
 /// The package that a value which names none stands for.
@@ -24,10 +24,7 @@ const MAX_ITEMS: u64 = 1000;
 fn package_variable(alloc: Global) -> Result<Symbol, NoMemory>
     ensures { IfOk result (λ symbol. symbol ≡ package_variable) }
 {
-    Ok(Symbol {
-        home: Text::of(alloc, "COMMON-LISP")?,
-        name: Text::of(alloc, "*PACKAGE*")?,
-    })
+    Symbol::common_lisp(alloc, "*PACKAGE*")
 }
 
 /// The full name of the package that a text names, and COMMON-LISP-USER where it names none.
@@ -87,10 +84,10 @@ pub fn repl_package(alloc: Global, image: &Image) -> Result<Sexp, NoMemory>
     let name = global_package(alloc, image)?;
     let prompt = prompt(alloc, image.names(), &name)?;
     let items = [
-        string(alloc, name.as_str())?,
-        string(alloc, prompt.as_str())?,
+        Sexp::string(alloc, name.as_str())?,
+        Sexp::string(alloc, prompt.as_str())?,
     ];
-    Ok(list(alloc, items)?)
+    Ok(Sexp::list(alloc, items)?)
 }
 
 /// What the server says of itself.

@@ -3,16 +3,15 @@ ghost use Rattle.lisp_data.specs.declared.sexp.Sexp.{out-Sexp};
 ghost use Rattle.swank_rpc.specs.Kept as spec;
 
 use lisp_data::{NoMemory, Sexp, Text};
-use server_info::{list, nil, symbol};
 use std::alloc::Global;
 
 fn truth(alloc: Global, holds: bool) -> Result<Sexp, NoMemory>
     ensures { IfOk result (λ form. form ≡ spec.truth holds) }
 {
     if holds {
-        symbol(alloc, "T")
+        Sexp::symbol(alloc, "T")
     } else {
-        Ok(nil(alloc))
+        Ok(Sexp::nil(alloc))
     }
 }
 
@@ -21,7 +20,7 @@ pub fn keep(alloc: Global, has_form: bool, global: Text) -> Result<Sexp, NoMemor
     ensures { IfOk result (λ form. form ≡ spec.kept has_form global) }
 {
     let items = [truth(alloc, has_form)?, Sexp::Str(global)];
-    Ok(list(alloc, items)?)
+    Ok(Sexp::list(alloc, items)?)
 }
 
 fn is_true(form: &Sexp) -> bool
@@ -37,11 +36,8 @@ fn is_true(form: &Sexp) -> bool
 pub fn has_form(kept: &Sexp) -> bool
     ensures { result ≡ spec.has_form kept.now }
 {
-    match kept {
-        Sexp::List(items) => match items.as_slice() {
-            [first, ..] => is_true(first),
-            [] => false,
-        },
+    match kept.as_list() {
+        Some([first, ..]) => is_true(first),
         _ => false,
     }
 }
@@ -49,9 +45,9 @@ pub fn has_form(kept: &Sexp) -> bool
 fn is_string(form: &Sexp, text: &Text) -> bool
     ensures { result ≡ spec.is_string text.now (out-Sexp form.now) }
 {
-    match form {
-        Sexp::Str(other) => other.as_str() == text.as_str(),
-        _ => false,
+    match form.as_text() {
+        Some(other) => other.as_str() == text.as_str(),
+        None => false,
     }
 }
 
@@ -59,11 +55,8 @@ fn is_string(form: &Sexp, text: &Text) -> bool
 pub fn began_in(kept: &Sexp, global: &Text) -> bool
     ensures { result ≡ spec.began_in kept.now global.now }
 {
-    match kept {
-        Sexp::List(items) => match items.as_slice() {
-            [_, second, ..] => is_string(second, global),
-            _ => false,
-        },
+    match kept.as_list() {
+        Some([_, second, ..]) => is_string(second, global),
         _ => false,
     }
 }

@@ -1,9 +1,9 @@
 ghost use Rattle.std.specs.Prelude.{◌≡◌, IfOk};
 ghost use Rattle.lisp_data.specs.declared.value.Value.TheVariants as value;
-ghost use Rattle.syntax_trees.specs.Symbols.{cl};
+ghost use Rattle.lisp_data.specs.Symbols.{cl};
 ghost use Rattle.swank_rpc.specs.Calls as calls;
 
-use lisp_data::{Condition, NoMemory, Rows, Sexp, Symbol, Text, TypeId, Value};
+use lisp_data::{Condition, NoMemory, Sexp, Symbol, Text, TypeId, Value};
 use lisp_errors::{limited, undefined_function};
 use sexp_printer::print_form;
 use std::alloc::Global;
@@ -15,7 +15,7 @@ pub fn bad_call(alloc: Global, form: &Sexp) -> Result<Condition, NoMemory>
     let mut message = Text::of(alloc, "Bad form: ")?;
     let shown = print_form(alloc, form)?;
     message.push_str(shown.as_str())?;
-    let datum = Value::List(Rows::new(alloc));
+    let datum = Value::nil(alloc);
     Ok(limited(
         alloc,
         Condition {
@@ -30,9 +30,7 @@ pub fn bad_call(alloc: Global, form: &Sexp) -> Result<Condition, NoMemory>
 fn head_symbol(alloc: Global, head: &Text) -> Result<Value, NoMemory>
     ensures { IfOk result (λ symbol. symbol ≡ value.Sym (cl head.now)) }
 {
-    let home = Text::of(alloc, "COMMON-LISP")?;
-    let name = head.copy(alloc)?;
-    Ok(Value::Sym(Symbol { home, name }))
+    Ok(Value::Sym(Symbol::common_lisp(alloc, head.as_str())?))
 }
 
 /// The head names no function. The package is the full name of the current one.

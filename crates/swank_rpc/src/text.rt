@@ -1,5 +1,5 @@
 ghost use Rattle.std.specs.Prelude.{◌≡◌, ◌≢◌, IfOk};
-ghost use Rattle.fault_names.specs.Names.{fault_name};
+ghost use Rattle.sexp_reader.specs.Names.{fault_name};
 ghost use Rattle.lisp_errors.specs.Causes.{reader_fault as unreadable};
 ghost use Rattle.sexp_reader.specs.Answers.{Gives};
 ghost use Rattle.swank_rpc.specs.Commands.{answer_of, evaluates};
@@ -8,7 +8,6 @@ ghost use Rattle.swank_rpc.specs.Texts as spec;
 use crate::Answer;
 use crate::global_package::global_package;
 use crate::kept::keep;
-use fault_names::fault_name;
 use lisp_data::{Condition, NoMemory, Rows, Text, Value};
 use lisp_errors::{MAX_WEIGHT, reader_fault};
 use lisp_image::Image;
@@ -23,7 +22,7 @@ fn refusal(alloc: Global, fault: ReadFault) -> Result<Condition, NoMemory>
 {
     match fault {
         ReadFault::NoMemory => Err(NoMemory),
-        _ => reader_fault(alloc, fault_name(fault)),
+        _ => reader_fault(alloc, fault.name()),
     }
 }
 

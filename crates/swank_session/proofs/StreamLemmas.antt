@@ -4,14 +4,15 @@ use Rattle.std.specs.Prelude.{◌≢◌, Option, Some, None, FitsSigned}
 use Rattle.std.specs.Str.{chars, is_utf8, IsUtf8}
 use Rattle.std.proofs.lemmas.Str.{IsUtf8-from_is_utf8, is_utf8-from_IsUtf8}
 use mir.Syntax.{w64}
-use Rattle.fault_names.specs.Names.{fault_name}
+use Rattle.sexp_reader.specs.Names.{fault_name}
 use Rattle.inlet.specs.Messages.{IsMessageOf, is_no_text, is_no_form, is_form, message_or_unknown, AreMessagesOf, none, next, AreMessages}
+use Rattle.lisp_data.specs.Parts.{form_text}
 use Rattle.lisp_data.specs.declared.sexp.Sexp.{Sexp, out-Sexp}
 use Rattle.lisp_data.specs.declared.sexp.Sexp.TheOpen.{Sexp-F}
 use Rattle.lisp_data.specs.declared.sexp.Sexp.TheVariants as form
 use Rattle.lisp_data.specs.declared.sexp.Sexp.TheVariants.{outs-Int, outs-Str, outs-Sym, outs-List}
 use Rattle.packet_framing.specs.Packets.{packets}
-use Rattle.rpc_messages.specs.Incoming.{is_symbol, natural_in, id_in, thread_in, unless_new, standing_in, string_in, package_in, integer_in, rex_of, rex_in, interrupt_of, interrupt_in, return_string_of, return_string_in, return_of, return_in, message_at, message_in_open, message_in}
+use Rattle.rpc_messages.specs.Incoming.{is_symbol, natural_in, id_in, thread_in, unless_new, standing_in, package_in, integer_in, rex_of, rex_in, interrupt_of, interrupt_in, return_string_of, return_string_in, return_of, return_in, message_at, message_in_open, message_in}
 use Rattle.rpc_messages.specs.declared.from_emacs.FromEmacs.{FromEmacs}
 use Rattle.rpc_messages.specs.declared.from_emacs.ThreadName.{ThreadName}
 use Rattle.rpc_messages.specs.declared.from_emacs.ThreadName.TheVariants as name
@@ -164,7 +165,7 @@ string-may [] h = tt
 string-may (_ ∷ []) h = tt
 string-may (_ ∷ _ ∷ []) h = tt
 string-may (t ∷ tag ∷ text ∷ _) h =
-    string_of-may (standing_in (out-Sexp t)) (natural_in (out-Sexp tag)) (string_in (out-Sexp text)) (standing-small (thread_in (out-Sexp t)) (thread-small (out-Sexp t) h.0)) (natural-small (out-Sexp tag) h.1.0)
+    string_of-may (standing_in (out-Sexp t)) (natural_in (out-Sexp tag)) (form_text text) (standing-small (thread_in (out-Sexp t)) (thread-small (out-Sexp t) h.0)) (natural-small (out-Sexp tag) h.1.0)
 
 return_of-may : (n : Option ThreadName) (tag : Option ℕ) (x : Sexp) → StandsIf n → TagIf tag → MayIf (return_of n tag x)
 return_of-may None tag x h k = tt

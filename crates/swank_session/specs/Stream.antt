@@ -2,7 +2,7 @@
 use Rattle.std.specs.Prelude.{ℕ, zero, suc, Bool, true, false, List, [], map, codes, ◌⊎◌}
 use Rattle.std.specs.Str.{chars, is_utf8}
 use Rattle.std.proofs.Common.{inl, inr}
-use Rattle.fault_names.specs.Names.{fault_name}
+use Rattle.sexp_reader.specs.Names.{fault_name}
 use Rattle.inlet.specs.Messages.{message_or_unknown}
 use Rattle.lisp_data.specs.declared.sexp.Sexp.{Sexp}
 use Rattle.packet_framing.specs.Packets.{after_first, packets}

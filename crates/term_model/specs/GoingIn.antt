@@ -1,195 +1,164 @@
--- Going into a form: the next part to evaluate is the first, from left to right, that the form's row evaluates and that is no value.
--- And the other way: what a form becomes with the value of the part that it waits for.
-use Rattle.std.specs.Prelude.{ℕ, pos, List, [], ◌∷◌, ◌++◌, Option, Some, None, option_map, codes}
-use Rattle.lisp_data.specs.declared.symbol.Symbol.{Symbol}
-use Rattle.lisp_data.specs.declared.type_id.TypeId.{TypeId}
+-- Going into a form: the next part to evaluate is the first, from left to right, that the form's row evaluates before its own step and that
+-- is no value. And the other way: what a form becomes with the value of the part that it waits for.
+use Rattle.std.specs.Prelude.{ℕ, zero, suc, ◌+◌, ◌-◌, min, List, [], ◌∷◌, ◌++◌, length, Option, Some, None, option_map}
 use Rattle.lisp_data.specs.declared.value.Value.{Value}
 use Rattle.lisp_data.specs.declared.value.Value as value
-use Rattle.syntax_trees.specs.Symbols.{cl, value_of_symbol}
+use Rattle.syntax_trees.specs.Places.{row_of, forms_of}
+use Rattle.lisp_data.specs.Parts.{nil}
+use Rattle.lisp_data.specs.Symbols.{value_of_symbol}
 use Rattle.syntax_trees.specs.declared.ast.Ast.{Ast}
-use Rattle.syntax_trees.specs.declared.ast.Ast.TheOpen.{Ast-F}
-use Rattle.syntax_trees.specs.declared.ast.Ast.TheViews.{out-Ast}
-use Rattle.syntax_trees.specs.declared.ast.Assignment.{Assignment}
-use Rattle.syntax_trees.specs.declared.ast.Binding.{Binding}
-use Rattle.syntax_trees.specs.declared.ast.Clause.{Clause}
-use Rattle.syntax_trees.specs.declared.ast.Handler.{Handler}
-use Rattle.syntax_trees.specs.declared.ast.Init.{Init}
-use Rattle.syntax_trees.specs.declared.ast.Init.TheVariants.{Bare, Empty, Form}
-use Rattle.term_model.specs.declared.focus.Bound.{Bound}
+use Rattle.syntax_trees.specs.declared.row.Bare.{Bare}
+use Rattle.syntax_trees.specs.declared.row.Bare.TheVariants as bare
+use Rattle.syntax_trees.specs.declared.row.Holder.{Holder}
+use Rattle.syntax_trees.specs.declared.row.Holder.TheVariants as holder
+use Rattle.syntax_trees.specs.declared.row.Named.{Named}
+use Rattle.syntax_trees.specs.declared.row.Named.TheVariants as named
+use Rattle.syntax_trees.specs.declared.row.Row.{Row}
+use Rattle.syntax_trees.specs.declared.row.Row.TheVariants as row
 use Rattle.term_model.specs.declared.focus.Focus.TheVariants as focus
 use Rattle.term_model.specs.declared.found.Found.{Found}
 use Rattle.term_model.specs.declared.found.Found.TheVariants.{Already, Here, Inside}
 use Rattle.term_model.specs.declared.plain.Plain.{Plain}
 use Rattle.term_model.specs.declared.plain.Plain.TheVariants as plain
-
--- the empty list
-abbrev pub nil : Value
-nil = value.List []
+use Rattle.term_model.specs.Progress.{Progress, progress}
 
 -- a literal, a quoted form and a function's name are values
-abbrev pub value_in : Ast-F Ast → Option Value
-value_in (Ast-F.Literal v) = Some v
-value_in (Ast-F.Quote v) = Some v
-value_in (Ast-F.Function s) = Some (value_of_symbol s)
-value_in _ = None
+abbrev pub value_of : Row → Option Value
+value_of (row.Literal v) = Some v
+value_of (row.Quote v) = Some v
+value_of (row.Function s) = Some (value_of_symbol s)
+value_of (row.Variable x) = None
+value_of (row.Bare b) = None
+value_of (row.Named k name) = None
+value_of (row.Held h x) = None
+value_of (row.Let bindings) = None
+value_of (row.LetStar bindings) = None
+value_of (row.Setq names) = None
+value_of (row.Defun name parameters) = None
+value_of (row.HandlerBind kinds) = None
+value_of (row.WithSimpleRestart name control arguments) = None
+value_of (row.InPackage p) = None
+value_of (row.Defpackage p uses exports) = None
+value_of row.CondClause = None
+value_of (row.HandlerClause kind x) = None
+value_of (row.RestartClause name parameters report) = None
 
--- inside this layer is the part, unless it is a value, with which it goes on
-abbrev pub part : Option Value → Plain → Ast → (Value → Found) → Found
-part None p e go = Inside p e
-part (Some v) p e go = go v
+abbrev pub value_in : Ast → Option Value
+value_in a = value_of (row_of a)
 
-abbrev pub evaluated : Ast → Plain → (Value → Found) → Found
-evaluated e p go = part (value_in (out-Ast e)) p e go
+-- how many of its n subforms a row evaluates before its own step. What comes a part at a time (`and`, `let*`, a body) goes on by a step after
+-- each; the subforms of `cond` are its clauses, and none of them is evaluated itself
+abbrev pub needs_bare : Bare → ℕ → ℕ
+needs_bare bare.If n = 1
+needs_bare bare.When n = 1
+needs_bare bare.Unless n = 1
+needs_bare bare.Cond n = 0
+needs_bare bare.And n = min n 1
+needs_bare bare.Or n = min n 1
+needs_bare bare.Progn n = min n 1
+needs_bare bare.Return n = min n 1
+needs_bare bare.Loop n = 0
+needs_bare bare.Catch n = 1
+needs_bare bare.Throw n = 2
+needs_bare bare.UnwindProtect n = 0
+needs_bare bare.HandlerCase n = 0
+needs_bare bare.IgnoreErrors n = 0
+needs_bare bare.RestartCase n = 0
 
--- a body: its forms one after another; one form alone stands for itself, and none for NIL
-abbrev pub first_of : Ast → List Ast → Found
-first_of e es = evaluated e (plain.Progn es) (λ v. Here (focus.Progn v es))
+abbrev pub needs_named : Named → ℕ → ℕ
+needs_named named.Block n = 0
+needs_named named.ReturnFrom n = min n 1
+needs_named named.Call n = n
 
--- the arguments of a call, of which these are evaluated
-abbrev pub arguments : Symbol → List Value → List Ast → Found
-arguments f vs [] = Here (focus.Apply f vs)
-arguments f vs (e ∷ es) = evaluated e (plain.Arguments f vs es) (λ v. arguments f (vs ++ v ∷ []) es)
+-- the count and the list of a loop are evaluated inside its block, and the value of `defvar` only where it has none
+abbrev pub needs_held : Holder → ℕ
+needs_held holder.DoTimes = 0
+needs_held holder.DoList = 0
+needs_held holder.Defvar = 0
+needs_held holder.Defparameter = 1
 
--- the value that a binding gives its variable: NIL where it has no form
-abbrev pub initial : Init Ast → Plain → (Value → Found) → Found
-initial Bare p go = go nil
-initial Empty p go = go nil
-initial (Form e) p go = evaluated e p go
+abbrev pub needs : Row → ℕ → ℕ
+needs (row.Literal v) n = 0
+needs (row.Quote v) n = 0
+needs (row.Variable x) n = 0
+needs (row.Function s) n = 0
+needs (row.Bare b) n = needs_bare b n
+needs (row.Named k name) n = needs_named k n
+needs (row.Held h x) n = needs_held h
+needs (row.Let bindings) n = length bindings
+needs (row.LetStar bindings) n = min (length bindings) 1
+needs (row.Setq names) n = min n 1
+needs (row.Defun name parameters) n = 0
+needs (row.HandlerBind kinds) n = length kinds
+needs (row.WithSimpleRestart name control arguments) n = arguments
+needs (row.InPackage p) n = 0
+needs (row.Defpackage p uses exports) n = 0
+needs row.CondClause n = 0
+needs (row.HandlerClause kind x) n = 0
+needs (row.RestartClause name parameters report) n = 0
 
-abbrev pub bound_to : Symbol → Value → Bound
-bound_to s v = record { variable = s; value = v }
+-- with the value it goes on, and without one it is this
+abbrev pub part : Option Value → (Value → Found) → Found → Found
+part (Some v) go inside = go v
+part None go inside = inside
 
--- the bindings of `let`, of which these are evaluated
-abbrev pub let_values : List Bound → List (Binding Ast) → List Ast → Found
-let_values vs [] body = Here (focus.Let vs body)
-let_values vs (b ∷ bs) body = initial b.init (plain.Let vs b.variable bs body) (λ v. let_values (vs ++ bound_to b.variable v ∷ []) bs body)
+-- the redex of a form
+abbrev pub ready : Row → ℕ → List Value → List Ast → Found
+ready r d vs es = Here (focus.Form (progress r d vs es))
 
--- a binding of `let*` and those after it
-abbrev pub let_star : Binding Ast → List (Binding Ast) → List Ast → Found
-let_star b bs body = initial b.init (plain.LetStar b.variable bs body) (λ v. Here (focus.LetStar b.variable v bs body))
+-- going into so many parts of those that are left
+abbrev pub found : ℕ → Row → ℕ → List Value → List Ast → Found
+found zero r d vs es = ready r d vs es
+found (suc k) r d vs [] = ready r d vs []
+found (suc k) r d vs (e ∷ es) =
+    part (value_in e) (λ v. found k r (d + 1) (vs ++ v ∷ []) es) (Inside (progress r (d + 1) vs es) e)
 
--- a pair of `setq` and those after it
-abbrev pub setq : Assignment Ast → List (Assignment Ast) → Found
-setq p ps = evaluated p.value (plain.Setq p.variable ps) (λ v. Here (focus.Setq p.variable v ps))
+-- going into the test of a clause, the first of these; the clause stays among them. One without a test counts as false
+abbrev pub tested : ℕ → List Ast → List Ast → Found
+tested d clauses [] = ready (row.Bare bare.Cond) d (nil ∷ []) clauses
+tested d clauses (test ∷ es) =
+    part (value_in test) (λ v. ready (row.Bare bare.Cond) d (v ∷ []) clauses) (Inside (progress (row.Bare bare.Cond) d [] clauses) test)
 
--- a clause of `cond` and those after it
-abbrev pub cond : Clause Ast → List (Clause Ast) → Found
-cond c cs = evaluated c.test (plain.Cond c.body cs) (λ v. Here (focus.Cond v c.body cs))
+-- going into the clauses of `cond` that are left
+abbrev pub cond : ℕ → List Ast → Found
+cond d [] = ready (row.Bare bare.Cond) d [] []
+cond d (clause ∷ clauses) = tested d (clause ∷ clauses) (forms_of clause)
 
--- a part of `and`, and of `or`, and those after it
-abbrev pub and_part : Ast → List Ast → Found
-and_part e es = evaluated e (plain.And es) (λ v. Here (focus.And v es))
+-- going into the parts of a row
+abbrev pub first_part : Row → List Ast → Found
+first_part (row.Bare bare.Cond) es = cond 0 es
+first_part r es = found (needs r (length es)) r 0 [] es
 
-abbrev pub or_part : Ast → List Ast → Found
-or_part e es = evaluated e (plain.Or es) (λ v. Here (focus.Or v es))
-
--- what is thrown to a tag
-abbrev pub thrown : Value → Ast → Found
-thrown tag e = evaluated e (plain.ThrowValue tag) (λ v. Here (focus.Throw tag v))
-
-abbrev pub handler_of : TypeId → Value → Handler Value
-handler_of kind v = record { kind = kind; function = v }
-
--- the functions of `handler-bind`, of which these are evaluated
-abbrev pub handler_values : List (Handler Value) → List (Handler Ast) → List Ast → Found
-handler_values vs [] body = Here (focus.HandlerBind vs body)
-handler_values vs (h ∷ hs) body = evaluated h.function (plain.HandlerBind vs h.kind hs body) (λ v. handler_values (vs ++ handler_of h.kind v ∷ []) hs body)
-
--- the arguments of the text of `with-simple-restart`, of which these are evaluated
-abbrev pub restart_arguments : Symbol → List ℕ → List Value → List Ast → List Ast → Found
-restart_arguments name control vs [] body = Here (focus.WithSimpleRestart name control vs body)
-restart_arguments name control vs (e ∷ es) body =
-    evaluated e (plain.WithSimpleRestart name control vs es body) (λ v. restart_arguments name control (vs ++ v ∷ []) es body)
-
--- the value of a return: NIL where it has no form
-abbrev pub returned : Symbol → Option Ast → Found
-returned name None = Here (focus.ReturnFrom name nil)
-returned name (Some e) = evaluated e (plain.ReturnFrom name) (λ v. Here (focus.ReturnFrom name v))
-
--- a `defparameter`
-abbrev pub defparameter : Symbol → Ast → Found
-defparameter x e = evaluated e (plain.Defparameter x) (λ v. Here (focus.Defparameter x v))
-
--- one row a form, with the form itself first
-abbrev pub found_in : Ast → Ast-F Ast → Found
-found_in a (Ast-F.Literal v) = Already v
-found_in a (Ast-F.Variable x) = Here (focus.Form a)
-found_in a (Ast-F.Quote v) = Already v
-found_in a (Ast-F.Function s) = Already (value_of_symbol s)
-found_in a (Ast-F.If test then otherwise) = evaluated test (plain.If then otherwise) (λ v. Here (focus.If v then otherwise))
-found_in a (Ast-F.When test body) = evaluated test (plain.When body) (λ v. Here (focus.When v body))
-found_in a (Ast-F.Unless test body) = evaluated test (plain.Unless body) (λ v. Here (focus.Unless v body))
-found_in a (Ast-F.Cond []) = Here (focus.Form a)
-found_in a (Ast-F.Cond (c ∷ cs)) = cond c cs
-found_in a (Ast-F.And []) = Here (focus.Form a)
-found_in a (Ast-F.And (e ∷ es)) = and_part e es
-found_in a (Ast-F.Or []) = Here (focus.Form a)
-found_in a (Ast-F.Or (e ∷ es)) = or_part e es
-found_in a (Ast-F.Progn []) = Here (focus.Form a)
-found_in a (Ast-F.Progn (e ∷ es)) = first_of e es
-found_in a (Ast-F.Let bindings body) = let_values [] bindings body
-found_in a (Ast-F.LetStar [] body) = Here (focus.Form a)
-found_in a (Ast-F.LetStar (b ∷ bs) body) = let_star b bs body
-found_in a (Ast-F.Setq []) = Here (focus.Form a)
-found_in a (Ast-F.Setq (p ∷ ps)) = setq p ps
-found_in a (Ast-F.Block name body) = Here (focus.Form a)
-found_in a (Ast-F.ReturnFrom name e) = returned name e
-found_in a (Ast-F.Return e) = returned (cl (codes "NIL")) e
-found_in a (Ast-F.Loop body) = Here (focus.Form a)
-found_in a (Ast-F.DoTimes x count body) = Here (focus.Form a)
-found_in a (Ast-F.DoList x list body) = Here (focus.Form a)
-found_in a (Ast-F.Catch tag body) = evaluated tag (plain.CatchTag body) (λ v. Here (focus.Catch v body))
-found_in a (Ast-F.Throw tag e) = evaluated tag (plain.ThrowTag e) (λ v. thrown v e)
-found_in a (Ast-F.UnwindProtect protected cleanup) = Here (focus.Form a)
-found_in a (Ast-F.Defun name parameters body) = Here (focus.Form a)
-found_in a (Ast-F.Defvar x e) = Here (focus.Form a)
-found_in a (Ast-F.Defparameter x e) = defparameter x e
-found_in a (Ast-F.HandlerBind handlers body) = handler_values [] handlers body
-found_in a (Ast-F.HandlerCase e clauses) = Here (focus.Form a)
-found_in a (Ast-F.IgnoreErrors body) = Here (focus.Form a)
-found_in a (Ast-F.RestartCase e clauses) = Here (focus.Form a)
-found_in a (Ast-F.WithSimpleRestart name control es body) = restart_arguments name control [] es body
-found_in a (Ast-F.InPackage p) = Here (focus.Form a)
-found_in a (Ast-F.Defpackage p uses exports) = Here (focus.Form a)
-found_in a (Ast-F.Call f es) = arguments f [] es
-
+-- what going into a form meets
 abbrev pub look : Ast → Found
-look a = found_in a (out-Ast a)
+look a = part (value_in a) Already (first_part (row_of a) (forms_of a))
 
--- what going into a body meets
+-- what a form becomes with the value of the part that it waits for
+abbrev pub continued : Progress → Value → Found
+continued p v = found (needs p.row (p.done + length p.rest) - p.done) p.row p.done (p.values ++ v ∷ []) p.rest
+
+-- what comes a part at a time goes on: the same row, with its next part and no value
+abbrev pub advanced : Progress → Found
+advanced p = found 1 p.row p.done [] p.rest
+
+-- what going into a body meets: its forms one after another; one form alone stands for itself, and none for NIL
 abbrev pub body : List Ast → Found
 body [] = Already nil
 body (e ∷ []) = look e
-body (e ∷ f ∷ es) = first_of e (f ∷ es)
+body (e ∷ f ∷ es) = found 1 (row.Bare bare.Progn) 0 [] (e ∷ f ∷ es)
 
--- `dotimes` and `dolist` inside their block: the count and the list are evaluated there
-abbrev pub counting : Symbol → Ast → List Ast → Found
-counting x e es = evaluated e (plain.DoTimes x es) (λ v. Here (focus.DoTimes x (pos 0) v es))
-
-abbrev pub listing : Symbol → Ast → List Ast → Found
-listing x e es = evaluated e (plain.DoList x es) (λ v. Here (focus.DoList x 0 v es))
-
--- what a form becomes with the value of the part that it waits for. A marker keeps the value: None
+-- what a layer becomes with the value of what is inside it. A marker keeps the value: None
 abbrev pub resumed : Plain → Value → Option Found
-resumed (plain.Progn es) v = Some (Here (focus.Progn v es))
-resumed (plain.If then otherwise) v = Some (Here (focus.If v then otherwise))
-resumed (plain.When body) v = Some (Here (focus.When v body))
-resumed (plain.Unless body) v = Some (Here (focus.Unless v body))
-resumed (plain.Cond body cs) v = Some (Here (focus.Cond v body cs))
-resumed (plain.And es) v = Some (Here (focus.And v es))
-resumed (plain.Or es) v = Some (Here (focus.Or v es))
-resumed (plain.Let vs x bs body) v = Some (let_values (vs ++ bound_to x v ∷ []) bs body)
-resumed (plain.LetStar x bs body) v = Some (Here (focus.LetStar x v bs body))
-resumed (plain.Setq x ps) v = Some (Here (focus.Setq x v ps))
-resumed (plain.ReturnFrom name) v = Some (Here (focus.ReturnFrom name v))
-resumed (plain.DoTimes x body) v = Some (Here (focus.DoTimes x (pos 0) v body))
-resumed (plain.DoList x body) v = Some (Here (focus.DoList x 0 v body))
-resumed (plain.CatchTag body) v = Some (Here (focus.Catch v body))
-resumed (plain.ThrowTag e) v = Some (thrown v e)
-resumed (plain.ThrowValue tag) v = Some (Here (focus.Throw tag v))
-resumed (plain.Defparameter x) v = Some (Here (focus.Defparameter x v))
-resumed (plain.HandlerBind vs kind hs body) v = Some (handler_values (vs ++ handler_of kind v ∷ []) hs body)
-resumed (plain.WithSimpleRestart name control vs es body) v = Some (restart_arguments name control (vs ++ v ∷ []) es body)
-resumed (plain.Arguments f vs es) v = Some (arguments f (vs ++ v ∷ []) es)
+resumed (plain.Form p) v = Some (continued p v)
 resumed (plain.Map f list next collected) v = Some (Here (focus.Map f list next (option_map (λ vs. vs ++ v ∷ []) collected)))
-resumed _ v = None
+resumed (plain.Before f) v = None
+resumed (plain.Call f vs) v = None
+resumed plain.Eval v = None
+resumed (plain.Lexical x w) v = None
+resumed (plain.Dynamic x w) v = None
+resumed (plain.Block name) v = None
+resumed (plain.Catch tag) v = None
+resumed (plain.Handlers cluster) v = None
+resumed (plain.Restarts offers) v = None
+resumed (plain.Handling n j) v = None
+resumed (plain.Answer kept) v = None

@@ -10,7 +10,7 @@ use Rattle.term_model.specs.declared.focus.Bound.{Bound}
 use Rattle.term_model.specs.declared.frame.Frame.{Frame}
 use Rattle.term_model.specs.declared.frame.Frame.TheVariants as frame
 use Rattle.term_model.specs.declared.plain.Plain.TheVariants as plain
-use Rattle.lisp_sequences.specs.Same.{same_symbol}
+use Rattle.lisp_data.specs.Same.{same_symbol}
 use Rattle.term_model.specs.Search.{Sight, Here, Past, nearest}
 use Rattle.term_model.specs.Term.{Context}
 

@@ -1,5 +1,6 @@
 pub mod Term
 pub mod Label
+pub mod Progress
 pub mod GoingIn
 pub mod Room
 pub mod Search

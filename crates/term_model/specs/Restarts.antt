@@ -4,7 +4,7 @@ use Rattle.std.specs.Prelude.{ℕ, zero, suc, ◌+◌, if◌then◌else◌, List
 use Rattle.std.specs.Fmt.{decimal}
 use Rattle.lisp_data.specs.declared.symbol.Symbol.{Symbol}
 use Rattle.lisp_data.specs.declared.value.Value.{Value}
-use Rattle.syntax_trees.specs.Symbols.{cl}
+use Rattle.lisp_data.specs.Symbols.{cl}
 use Rattle.term_model.specs.declared.frame.Frame.{Frame}
 use Rattle.term_model.specs.declared.frame.Frame.TheVariants as frame
 use Rattle.term_model.specs.declared.kept.Bring.{Bring}
@@ -16,7 +16,7 @@ use Rattle.term_model.specs.declared.restart.Action.{Action}
 use Rattle.term_model.specs.declared.restart.Action.TheVariants.{Give, Run}
 use Rattle.term_model.specs.declared.restart.Offer.{Offer}
 use Rattle.term_model.specs.declared.restart.Restart.{Restart}
-use Rattle.lisp_sequences.specs.Same.{same_symbol}
+use Rattle.lisp_data.specs.Same.{same_symbol}
 use Rattle.term_model.specs.Search.{layer_at}
 use Rattle.term_model.specs.Term.{Context}
 
@@ -75,7 +75,7 @@ brings (outcome.Reply r) = bring.Reply r
 
 abbrev pub by_action : ℕ → ℕ → List Value → Action → Leaving
 by_action n i vs (Give o) = record { target = n; bring = brings o }
-by_action n i vs (Run parameters body) = record { target = n; bring = bring.Clause i vs }
+by_action n i vs (Run clause) = record { target = n; bring = bring.Clause i vs }
 
 abbrev pub by_offer : ℕ → ℕ → List Value → Option Offer → Option Leaving
 by_offer n i vs None = None

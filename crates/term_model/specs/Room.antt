@@ -7,6 +7,7 @@ use Rattle.term_model.specs.declared.found.Found.TheVariants.{Already, Here, Ins
 use Rattle.term_model.specs.declared.frame.Frame.TheVariants as frame
 use Rattle.term_model.specs.declared.kept.Outcome.TheVariants as outcome
 use Rattle.term_model.specs.declared.plain.Plain.{Plain}
+use Rattle.term_model.specs.declared.plain.Plain.TheVariants as plain
 use Rattle.term_model.specs.GoingIn.{look}
 use Rattle.term_model.specs.Term.{Context}
 
@@ -42,7 +43,7 @@ abbrev pub enter : ℕ → Context → Found → Entered
 enter space c (Already v) = record { around = c; redex = Some (Given (outcome.Value v)) }
 enter space c (Here f) = record { around = c; redex = Some f }
 enter zero c (Inside p e) = record { around = c; redex = None }
-enter (suc space) c (Inside p e) = enter space (frame.On p ∷ c) (look e)
+enter (suc space) c (Inside p e) = enter space (frame.On (plain.Form p) ∷ c) (look e)
 
 -- the same inside new markers, the outermost first. A marker that holds a value is itself the redex, so it needs no room
 abbrev pub wrap : ℕ → Context → List Plain → Found → Entered

@@ -5,7 +5,7 @@ use Rattle.lisp_data.specs.declared.value.Value.{Value}
 use Rattle.term_model.specs.declared.frame.Frame.{Frame}
 use Rattle.term_model.specs.declared.frame.Frame.TheVariants as frame
 use Rattle.term_model.specs.declared.plain.Plain.TheVariants as plain
-use Rattle.lisp_sequences.specs.Same.{same_symbol}
+use Rattle.lisp_data.specs.Same.{same_symbol}
 use Rattle.term_model.specs.Search.{Sight, Here, Ends, Past, nearest, changed}
 use Rattle.term_model.specs.Term.{Context}
 

@@ -1,10 +1,10 @@
-use crate::Outcome;
-use lisp_data::{Boxed, Condition, Pile, Rows, Symbol, Text, Value};
+use crate::{Outcome, Partial};
+use lisp_data::{Condition, Pile, Rows, Text, Value};
 use rpc_messages::Pattern;
 use sexp_reader::Placed;
-use syntax_trees::{Assignment, Ast, Binding, Clause, Handler, Name};
+use syntax_trees::{Code, Forms, Name};
 
-/// A variable of `let` with its value.
+/// A variable with its value.
 #[derive(Drop)]
 pub struct Bound {
     pub variable: Name,
@@ -18,118 +18,43 @@ pub struct Origin {
     pub position: i64,
 }
 
-/// The redex: what the next step rewrites. Of a form it holds the values of the parts that were evaluated, and what is left.
+/// The redex: what the next step rewrites.
 #[derive(Drop)]
 pub enum Focus {
     /// An outcome in the layer that is directly around it.
     Given(Outcome),
-    /// A form with nothing to evaluate before its own step.
-    Form(Ast),
-    /// `(progn v e ..)`
-    Progn {
-        value: Value,
-        rest: Pile<Ast>,
-    },
-    If {
-        test: Value,
-        then: Boxed<Ast>,
-        otherwise: Option<Boxed<Ast>>,
-    },
-    When {
-        test: Value,
-        body: Rows<Ast>,
-    },
-    Unless {
-        test: Value,
-        body: Rows<Ast>,
-    },
-    /// The test of the first clause, its body, and the further clauses.
-    Cond {
-        test: Value,
-        body: Rows<Ast>,
-        rest: Pile<Clause<Ast>>,
-    },
-    And {
-        value: Value,
-        rest: Pile<Ast>,
-    },
-    Or {
-        value: Value,
-        rest: Pile<Ast>,
-    },
-    Let {
-        bound: Rows<Bound>,
-        body: Rows<Ast>,
-    },
-    /// The first binding with its value, and the further ones.
-    LetStar {
-        variable: Name,
-        value: Value,
-        rest: Pile<Binding<Ast>>,
-        body: Rows<Ast>,
-    },
-    /// The first pair with its value, and the further ones.
-    Setq {
-        variable: Name,
-        value: Value,
-        rest: Pile<Assignment<Ast>>,
-    },
-    ReturnFrom {
-        name: Symbol,
-        value: Value,
-    },
+    /// A form whose parts are evaluated, as far as it wants them before its own step.
+    Form(Partial),
     /// The loop that has its block, before a turn.
-    Loop(Rows<Ast>),
-    /// The same of `dotimes`, with the number of the turn that comes and the value of its count.
+    Loop(Forms),
+    /// `dotimes` before the turn of this number, with the value of its count.
     DoTimes {
         variable: Name,
         turn: i64,
         count: Value,
-        body: Rows<Ast>,
+        body: Forms,
     },
-    /// The same of `dolist`, with the place of the item that comes and the value of its list.
+    /// `dolist` before the turn for the item at this place, with the value of its list.
     DoList {
         variable: Name,
         turn: u64,
         list: Value,
-        body: Rows<Ast>,
-    },
-    Catch {
-        tag: Value,
-        body: Rows<Ast>,
-    },
-    Throw {
-        tag: Value,
-        value: Value,
-    },
-    Defparameter {
-        variable: Name,
-        value: Value,
+        body: Forms,
     },
     /// A function definition that is itself a form of a compiled text, with its place there in characters.
     DefunAt {
-        definition: Ast,
+        definition: Code,
         origin: Origin,
         at: u64,
     },
-    HandlerBind {
-        handlers: Rows<Handler<Value>>,
-        body: Rows<Ast>,
-    },
-    WithSimpleRestart {
-        name: Symbol,
-        control: Text,
-        arguments: Rows<Value>,
-        body: Rows<Ast>,
-    },
-    /// A call whose arguments are values.
+    /// A call that a function makes.
     Apply {
-        function: Symbol,
+        function: Name,
         arguments: Rows<Value>,
     },
     /// `mapcar`, which collects the values of its calls, or `mapc`, which doesn't, before the call for the item at this place.
     Map {
-        function: Symbol,
+        function: Name,
         list: Rows<Value>,
         next: u64,
         collected: Option<Rows<Value>>,

@@ -1,6 +1,6 @@
 use crate::{Ask, Plain, Saved};
-use lisp_data::{Condition, Rows, Sexp};
-use syntax_trees::Ast;
+use lisp_data::{Condition, Sexp};
+use syntax_trees::Forms;
 
 /// A layer of a term, which is a frame of the stack.
 #[derive(Drop)]
@@ -9,7 +9,7 @@ pub enum Frame {
     /// A protected form, with its serial number and its cleanup.
     Protect {
         serial: u64,
-        cleanup: Rows<Ast>,
+        cleanup: Forms,
     },
     /// A cleanup at work, with what it keeps.
     Cleanup {

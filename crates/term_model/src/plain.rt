@@ -1,101 +1,43 @@
-use crate::{Bound, Focus, Offer};
-use lisp_data::{Boxed, Pile, Rows, Sexp, Symbol, Text, TypeId, Value};
-use syntax_trees::{Assignment, Ast, Binding, Clause, Handler, HandlerClause, Name};
+use crate::{Focus, Offer, Partial};
+use lisp_data::{Rows, Sexp, TypeId, Value};
+use syntax_trees::{Forms, Name};
 
 /// A handler of `handler-bind`: its type, and the function's name.
 #[derive(Drop)]
 pub struct HandlerFunction {
     pub kind: TypeId,
-    pub function: Symbol,
+    pub function: Name,
 }
 
 /// The handlers that one layer establishes.
 #[derive(Drop)]
 pub enum Cluster {
     Functions(Rows<HandlerFunction>),
-    Clauses(Rows<HandlerClause<Ast>>),
+    /// The clauses of `handler-case`.
+    Clauses(Forms),
+    /// The one of `ignore-errors`, which takes errors and gives NIL.
+    Ignoring,
 }
 
 /// A layer that has no part in requests, levels, protected forms, cleanups and questions: a form that waits for the value of one
 /// of its parts, or a marker.
 #[derive(Drop)]
 pub enum Plain {
-    /// `(progn _ e ..)`
-    Progn(Pile<Ast>),
+    /// A form that waits for the value of the part that was taken last, which isn't among its values yet; `cond` waits for the test of the
+    /// first clause that is left.
+    Form(Partial),
     /// `(progn _ f)`, where f is a redex.
     Before(Focus),
-    If {
-        then: Boxed<Ast>,
-        otherwise: Option<Boxed<Ast>>,
-    },
-    When(Rows<Ast>),
-    Unless(Rows<Ast>),
-    Cond {
-        body: Rows<Ast>,
-        rest: Pile<Clause<Ast>>,
-    },
-    And(Pile<Ast>),
-    Or(Pile<Ast>),
-    Let {
-        bound: Rows<Bound>,
-        variable: Name,
-        rest: Pile<Binding<Ast>>,
-        body: Rows<Ast>,
-    },
-    LetStar {
-        variable: Name,
-        rest: Pile<Binding<Ast>>,
-        body: Rows<Ast>,
-    },
-    Setq {
-        variable: Name,
-        rest: Pile<Assignment<Ast>>,
-    },
-    ReturnFrom(Symbol),
-    DoTimes {
-        variable: Name,
-        body: Rows<Ast>,
-    },
-    DoList {
-        variable: Name,
-        body: Rows<Ast>,
-    },
-    /// `catch` that waits for its tag.
-    CatchTag(Rows<Ast>),
-    /// `throw` that waits for its tag.
-    ThrowTag(Boxed<Ast>),
-    /// `throw` with its tag, which waits for what it throws.
-    ThrowValue(Value),
-    Defparameter(Name),
-    HandlerBind {
-        evaluated: Rows<Handler<Value>>,
-        kind: TypeId,
-        rest: Pile<Handler<Ast>>,
-        body: Rows<Ast>,
-    },
-    WithSimpleRestart {
-        name: Symbol,
-        control: Text,
-        evaluated: Rows<Value>,
-        rest: Pile<Ast>,
-        body: Rows<Ast>,
-    },
-    /// A call that waits for an argument.
-    Arguments {
-        function: Symbol,
-        evaluated: Rows<Value>,
-        rest: Pile<Ast>,
-    },
     /// `mapcar` or `mapc` that waits for a call; `next` is the place of the item after it.
     Map {
-        function: Symbol,
+        function: Name,
         list: Rows<Value>,
         next: u64,
         collected: Option<Rows<Value>>,
     },
     /// A call of a user function.
     Call {
-        function: Symbol,
+        function: Name,
         arguments: Rows<Value>,
     },
     /// An evaluation without lexical variables.
@@ -110,7 +52,7 @@ pub enum Plain {
         variable: Name,
         value: Value,
     },
-    Block(Symbol),
+    Block(Name),
     /// A catch with its tag.
     Catch(Value),
     Handlers(Cluster),

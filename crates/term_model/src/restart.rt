@@ -1,21 +1,18 @@
 use crate::Outcome;
-use lisp_data::{Rows, Symbol, Text};
-use syntax_trees::{Ast, Name};
+use lisp_data::Text;
+use syntax_trees::{Code, Name};
 
-/// What invoking a restart does once its layer is reached: it gives this outcome, or runs a clause of `restart-case`.
+/// What invoking a restart does once its layer is reached: it gives this outcome, or runs this clause of `restart-case`.
 #[derive(Drop)]
 pub enum Action {
     Give(Outcome),
-    Run {
-        parameters: Rows<Name>,
-        body: Rows<Ast>,
-    },
+    Run(Code),
 }
 
 /// A restart that a layer offers.
 #[derive(Drop)]
 pub struct Offer {
-    pub name: Symbol,
+    pub name: Name,
     pub text: Text,
     pub action: Action,
 }
@@ -24,7 +21,7 @@ pub struct Offer {
 /// the restarts of that layer, from 0.
 #[derive(Drop)]
 pub struct Restart {
-    pub name: Symbol,
+    pub name: Name,
     pub text: Text,
     pub at: u64,
     pub number: u64,

@@ -1,14 +1,10 @@
-//! Tests of a thread's stack and of its machine, which hold no code: each public call of the stack on its happy path, and requests with
-//! what they give, step by step. They stand apart so that they are proved without the crates that they test being proved again.
+//! Tests of a thread's stack, which hold no code: each public call of the stack and of going in on its happy path, as far as no session of
+//! `swank_rows` makes it. They stand apart so that they are proved without the crates that they test being proved again.
 #![tactic(auto)]
 
 #[cfg(test)]
 mod entering;
 #[cfg(test)]
-mod resuming;
-#[cfg(test)]
 mod samples;
 #[cfg(test)]
 mod stacks;
-#[cfg(test)]
-mod steps;

@@ -1,8 +1,8 @@
 //! Parts of terms that several tests use.
 
-use lisp_data::{NoMemory, Symbol, Text, Value};
+use lisp_data::{NoMemory, Rows, Shared, Symbol, Text, Value};
 use std::alloc::Global;
-use syntax_trees::{Ast, Name};
+use syntax_trees::{Ast, Name, Row};
 
 /// A symbol of COMMON-LISP-USER.
 pub(crate) fn symbol(alloc: Global, name: &str) -> Result<Symbol, NoMemory> {
@@ -12,8 +12,34 @@ pub(crate) fn symbol(alloc: Global, name: &str) -> Result<Symbol, NoMemory> {
     })
 }
 
-pub(crate) fn variable(alloc: Global, name: &str) -> Result<Ast, NoMemory> {
-    Ok(Ast::Variable(Name::of(symbol(alloc, name)?)))
+pub(crate) fn name(alloc: Global, name: &str) -> Result<Name, NoMemory> {
+    Name::new(alloc, symbol(alloc, name)?)
+}
+
+/// A row of the syntax with these subforms.
+pub(crate) fn node(alloc: Global, row: Row, forms: Rows<Ast>) -> Result<Ast, NoMemory> {
+    let forms = Shared::new(alloc, forms)?;
+    Ok(Ast { row, forms })
+}
+
+pub(crate) fn literal(alloc: Global, number: i64) -> Result<Ast, NoMemory> {
+    node(alloc, Row::Literal(Value::Int(number)), Rows::new(alloc))
+}
+
+pub(crate) fn variable(alloc: Global, variable: &str) -> Result<Ast, NoMemory> {
+    node(
+        alloc,
+        Row::Variable(name(alloc, variable)?),
+        Rows::new(alloc),
+    )
+}
+
+/// A form of this row with two subforms.
+pub(crate) fn form_of(alloc: Global, row: Row, first: Ast, second: Ast) -> Result<Ast, NoMemory> {
+    let mut forms = Rows::new(alloc);
+    forms.push(first)?;
+    forms.push(second)?;
+    node(alloc, row, forms)
 }
 
 pub(crate) fn is_int(value: Option<&Value>, want: i64) -> bool {

@@ -1,15 +1,14 @@
 //! The frames of a stack: pushing and taking them off, finding and changing them.
 
-use crate::samples::{is_int, symbol};
+use crate::samples::{is_int, name, symbol};
 use lisp_data::{Condition, NoMemory, Text, TypeId, Value};
 use lisp_frames::{Focus, Frame, Plain, PushFault, Stack};
 use std::alloc::Global;
 use std::test::Fail;
-use syntax_trees::Name;
 
-fn local(alloc: Global, name: &str, value: i64) -> Result<Frame, NoMemory> {
+fn local(alloc: Global, variable: &str, value: i64) -> Result<Frame, NoMemory> {
     Ok(Frame::On(Plain::Lexical {
-        variable: Name::of(symbol(alloc, name)?),
+        variable: name(alloc, variable)?,
         value: Value::Int(value),
     }))
 }
@@ -75,7 +74,7 @@ fn frames_are_pushed_up_to_the_limit(rt: HostRuntime) -> Result<(), Fail> {
 /// Whether the changes of one frame, the redex and the serial are seen.
 fn changes(stack: &mut Stack, alloc: Global) -> Result<bool, PushFault> {
     stack.push(Frame::On(Plain::Dynamic {
-        variable: Name::of(symbol(alloc, "V")?),
+        variable: name(alloc, "V")?,
         value: Value::Int(1),
     }))?;
     stack.push(level(alloc)?)?;

@@ -24,8 +24,14 @@ live_one : (threads : List (Option Thread)) (t : ℕ) (o : Option Thread) → th
 live_one threads t None e h = absurd (cc)
 live_one threads t (Some thread) e h = live_within threads t thread e
 
-pub invariant_of-self-then-branch : goal.invariant_of-self-then-branch
-invariant_of-self-then-branch c =
+pub invariant_of-self-in_ok-route : goal.invariant_of-self-in_ok-route
+invariant_of-self-in_ok-route c =
+    let i = c.self.inside in
+    let less = live_one i.threads c.args.t (thread_in i.threads c.args.t) refl (sym c.in_ok-post.ensures.live ∙ c.if-branch.true) in
+    subst (λ n. AreWorkers n (reverse c.route.new.workers.items)) (sym c.in_ok-post.ensures.long) (c.route.ensures.kept (length i.threads) less c.self.invariant)
+
+pub invariant_of-self-in_err-route : goal.invariant_of-self-in_err-route
+invariant_of-self-in_err-route c =
     let i = c.self.inside in
     let less = live_one i.threads c.args.t (thread_in i.threads c.args.t) refl (sym c.in_ok-post.ensures.live ∙ c.if-branch.true) in
     subst (λ n. AreWorkers n (reverse c.route.new.workers.items)) (sym c.in_ok-post.ensures.long) (c.route.ensures.kept (length i.threads) less c.self.invariant)

@@ -63,7 +63,7 @@ returns-then-run-clause-bursts c = λ w threads image still.
     let shows = stands_shows i.next i.records.items place c.args.t was c.self.invariant s w c.args.image.now c.args.self.now c.self.view_is threads image still in
     let ran = subst (λ b. Runs w c.args.max was c.args.outs.now now.kept now.image now.outs run.steps b) c.if-run.true (c.in-Ok.ensures.runs w shows) in
     let ended = set_read i.records.items place now.kept c.remove-ended.result (stands_within i.records.items place c.args.t was s) c.remove-ended.ensures.value in
-    let swept = c.in_ok-sweep-in-Ok.ensures ∙ ap (λ (r : Record). now.outs ++ swept_from r.mailbox) ended in
+    let swept = c.in_ok-sweep-in-Ok.ensures ∙ ap (λ ms. now.outs ++ swept_from ms) c.into_mailbox.ensures ∙ ap (λ (r : Record). now.outs ++ swept_from r.mailbox) ended in
     let removed = (stands_removed i.next i.records.items place c.args.t was c.self.invariant s).threads in
     let is =
     ap (threads_of i.next) (c.remove-ended.ensures.items ∙ remove_set i.records.items place now.kept) ∙ removed

@@ -1,4 +1,0 @@
-pub mod AssignmentLemmas
-pub mod LoopLemmas
-pub mod Loops
-pub mod RowLemmas

@@ -1,9 +1,0 @@
-use Rattle.std.proofs.Common.{◌≡◌, ◌++◌, length}
-use Rattle.syntax_rows.specs.Reading.{leading}
-use Rattle.form_parser.proofs.owned.leading_parameters.Given as goal
-
-abbrev pub invariant-loop-rest : goal.invariant-loop-rest
-invariant-loop-rest l = (leading l.fn.items).0 ≡ l.symbols ++ (leading l.rest).0
-
-abbrev pub decreases-loop-rest : goal.decreases-loop-rest
-decreases-loop-rest l = length l.rest

@@ -1,4 +1,0 @@
-pub mod Given
-pub mod Lent
-pub mod Items
-pub mod RowTrees

@@ -1,0 +1,14 @@
+pub mod Loops
+pub mod HeadLemmas
+pub mod Options
+pub mod Levels
+pub mod Words
+pub mod Lists
+pub mod ClauseLemmas
+pub mod Names
+pub mod FormRows
+pub mod FoundRows
+pub mod Depths
+pub mod Trees
+pub mod FirstBads
+pub mod Parses

@@ -1,9 +1,0 @@
-pub mod Unparsing
-pub mod Options
-pub mod Levels
-pub mod Sound
-pub mod SoundRows
-pub mod Depths
-pub mod RoundTrip
-pub mod Subforms
-pub mod FirstBadLemmas
