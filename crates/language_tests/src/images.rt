@@ -1,10 +1,11 @@
 ghost use Rattle.std.specs.Prelude.{IfOk};
 ghost use Rattle.lisp_image.specs.Image.{HasSmallOffset, IsFunctionName};
 
-use lisp_data::{NoMemory, Rows, Symbol, Text, Value};
+use lisp_data::{NoMemory, Rows, Shared, Symbol, Text, Value};
 use lisp_image::{Function, Image};
 use std::alloc::Global;
 use std::test::Fail;
+use syntax_trees::{Forms, Name};
 
 fn symbol(alloc: Global, home: &str, name: &str) -> Result<Symbol, NoMemory> {
     Ok(Symbol {
@@ -24,16 +25,16 @@ fn function_name(alloc: Global, name: &str) -> Result<Symbol, NoMemory>
 }
 
 /// A function of no parameters, or of a rest parameter alone, with an empty body.
-fn function(alloc: Global, rest: Option<Symbol>) -> Function
-    ensures { HasSmallOffset result }
+fn function(alloc: Global, rest: Option<Name>) -> Result<Function, NoMemory>
+    ensures { IfOk result (λ function. HasSmallOffset function) }
 {
-    Function {
+    Ok(Function {
         required: Rows::new(alloc),
         optional: Rows::new(alloc),
         rest,
-        body: Rows::new(alloc),
+        body: Forms::of(Shared::new(alloc, Rows::new(alloc))?),
         source: None,
-    }
+    })
 }
 
 fn is_text(value: Option<&Value>, want: &str) -> bool {
@@ -69,14 +70,14 @@ fn keeps_its_place(
     alloc: Global,
     f: &Symbol,
     g: &Symbol,
-    rest: Symbol,
+    rest: Name,
 ) -> Result<bool, NoMemory>
     requires f { IsFunctionName f.now }
     requires g { IsFunctionName g.now }
 {
-    image.define(f, function(alloc, None))?;
-    image.define(g, function(alloc, None))?;
-    image.define(f, function(alloc, Some(rest)))?;
+    image.define(f, function(alloc, None)?)?;
+    image.define(g, function(alloc, None)?)?;
+    image.define(f, function(alloc, Some(rest))?)?;
     let is_last = image.function_at(2).is_none();
     let is_same = image.function(g).map_or(false, |old| old.rest.is_none());
     let is_first = image
@@ -116,7 +117,7 @@ fn a_function_defined_again_keeps_its_place(rt: HostRuntime) -> Result<(), Fail>
     let alloc = rt.alloc();
     let f = function_name(alloc, "F")?;
     let g = function_name(alloc, "G")?;
-    let rest = symbol(alloc, "KEYWORD", "REST")?;
+    let rest = Name::new(alloc, symbol(alloc, "KEYWORD", "REST")?)?;
     let mut image = Image::new(alloc)?;
     let holds = keeps_its_place(&mut image, alloc, &f, &g, rest)?;
     assert!(rt; holds);

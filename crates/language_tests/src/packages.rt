@@ -3,24 +3,35 @@ use lisp_packages::{NameFault, Packages};
 use std::alloc::Global;
 use std::test::*;
 
+/// Two texts with a third between them.
+fn joined(alloc: Global, first: &Text, joint: &str, last: &Text) -> Result<Text, NoMemory> {
+    let mut text = Text::of(alloc, first.as_str())?;
+    text.push_str(joint)?;
+    text.push_str(last.as_str())?;
+    Ok(text)
+}
+
 /// The home, two colons and the name of a token's symbol, or the refusal in words.
 fn told(
     packages: &mut Packages,
     alloc: Global,
     package: &str,
     token: &str,
-) -> Result<Text, NameFault> {
+) -> Result<Text, NoMemory> {
     let package = Text::of(alloc, package)?;
     let token = Text::of(alloc, token)?;
-    let (mut text, joint, last) = match packages.resolve(&package, &token) {
-        Ok(symbol) => (symbol.home, "::", symbol.name),
-        Err(NameFault::NoPackage(name)) => (Text::of(alloc, "no package")?, " ", name),
-        Err(NameFault::NotExternal(name, home)) => (name, " not external in ", home),
-        Err(fault) => return Err(fault),
-    };
-    text.push_str(joint)?;
-    text.push_str(last.as_str())?;
-    Ok(text)
+    match packages.resolve(&package, &token) {
+        Ok(symbol) => joined(alloc, &symbol.home, "::", &symbol.name),
+        Err(NameFault::NoPackage(name)) => joined(
+            alloc,
+            &Text::of(alloc, "no package")?,
+            " ",
+            &name,
+        ),
+        Err(NameFault::NotExternal(name, home)) => joined(alloc, &name, " not external in ", &home),
+        Err(NameFault::Clash) => Text::of(alloc, "clash"),
+        Err(NameFault::NoMemory) => Err(NoMemory),
+    }
 }
 
 /// Whether a token is told so.
@@ -30,7 +41,7 @@ fn tells(
     package: &str,
     token: &str,
     want: &str,
-) -> Result<bool, NameFault> {
+) -> Result<bool, NoMemory> {
     let text = told(packages, alloc, package, token)?;
     Ok(text.as_str() == want)
 }
@@ -163,11 +174,13 @@ fn a_value_makes_its_symbol(rt: HostRuntime) -> Result<(), Fail> {
 }
 
 /// Whether CL:NIL is the empty list.
-fn nil_is_the_empty_list(packages: &mut Packages, alloc: Global) -> Result<bool, NameFault> {
+fn nil_is_the_empty_list(packages: &mut Packages, alloc: Global) -> Result<bool, NoMemory> {
     let user = Text::of(alloc, "CL-USER")?;
     let form = token(alloc, "CL:NIL")?;
-    let none = packages.value_of(&user, &form)?;
-    Ok(none.same(&Value::List(Rows::new(alloc))))
+    match packages.value_of(&user, &form) {
+        Ok(none) => Ok(none.same(&Value::nil(alloc))),
+        Err(_) => Ok(false),
+    }
 }
 
 #[test]
@@ -211,15 +224,23 @@ fn quote_is_first(packages: &Packages, alloc: Global) -> Result<bool, NoMemory> 
     }
 }
 
+/// Whether a REPL may be in a package, under this name.
+fn is_there(packages: &Packages, package: &Text, want: &str) -> bool {
+    match packages.in_package(package) {
+        Ok(whole) => whole.as_str() == want,
+        Err(_) => false,
+    }
+}
+
 /// Whether all of this holds, and CL-USER is where a REPL may be.
-fn knows(packages: &Packages, alloc: Global) -> Result<bool, NameFault> {
+fn knows(packages: &Packages, alloc: Global) -> Result<bool, NoMemory> {
     let user = Text::of(alloc, "CL-USER")?;
     let keyword = Text::of(alloc, "KEYWORD")?;
-    let whole = packages.in_package(&user)?;
+    let is_whole = is_there(packages, &user, "COMMON-LISP-USER");
     let is_first = quote_is_first(packages, alloc)?;
     Ok(
         is_first
-            && whole.as_str() == "COMMON-LISP-USER"
+            && is_whole
             && names_are_known(packages, &user, &keyword)
             && places_are_known(packages, &user),
     )
@@ -249,35 +270,37 @@ fn interned(
     }
 }
 
-/// Interns a name in CL-USER and exports it from a package.
-fn export(
+/// Interns a name in CL-USER and exports it from a package; whether both can be had.
+fn exports(
     packages: &mut Packages,
     alloc: Global,
     package: &str,
     name: &str,
-) -> Result<(), NameFault> {
+) -> Result<bool, NoMemory> {
     let user = Text::of(alloc, "CL-USER")?;
     let package = Text::of(alloc, package)?;
     let name = Text::of(alloc, name)?;
-    let symbol = packages.intern(&user, &name)?;
-    packages.export(&package, &symbol)
+    match packages.intern(&user, &name) {
+        Ok(symbol) => Ok(packages.export(&package, &symbol).is_ok()),
+        Err(_) => Ok(false),
+    }
 }
 
-/// Makes CL-USER a user of KEYWORD.
-fn use_keywords(packages: &mut Packages, alloc: Global) -> Result<(), NameFault> {
+/// Makes CL-USER a user of KEYWORD, if that can be had.
+fn uses_keywords(packages: &mut Packages, alloc: Global) -> Result<bool, NoMemory> {
     let user = Text::of(alloc, "CL-USER")?;
     let keyword = Text::of(alloc, "KEYWORD")?;
-    packages.use_package(&user, &keyword)
+    Ok(packages.use_package(&user, &keyword).is_ok())
 }
 
 /// Whether a keyword that would clash with a symbol of a package which uses KEYWORD is refused, and another seen there.
-fn keywords_are_seen(packages: &mut Packages, alloc: Global) -> Result<bool, NameFault> {
-    export(packages, alloc, "CL-USER", "X")?;
-    use_keywords(packages, alloc)?;
+fn keywords_are_seen(packages: &mut Packages, alloc: Global) -> Result<bool, NoMemory> {
+    let is_exported = exports(packages, alloc, "CL-USER", "X")?;
+    let is_used = uses_keywords(packages, alloc)?;
     let x = interned(packages, alloc, "KEYWORD", "X")?;
     let y = interned(packages, alloc, "KEYWORD", "Y")?;
     let is_seen = tells(packages, alloc, "CL-USER", "Y", "KEYWORD::Y")?;
-    Ok(is_seen && x == "clash" && y == "made")
+    Ok(is_exported && is_used && is_seen && x == "clash" && y == "made")
 }
 
 #[test]
@@ -289,8 +312,8 @@ fn keywords_are_seen_where_they_are_used(rt: HostRuntime) -> Result<(), Fail> {
 }
 
 /// Whether a symbol that is exported is seen through one colon, and may be exported from KEYWORD too.
-fn exports_are_seen(packages: &mut Packages, alloc: Global) -> Result<bool, NameFault> {
-    export(packages, alloc, "CL-USER", "X")?;
+fn exports_are_seen(packages: &mut Packages, alloc: Global) -> Result<bool, NoMemory> {
+    let is_exported = exports(packages, alloc, "CL-USER", "X")?;
     let is_seen = tells(
         packages,
         alloc,
@@ -298,8 +321,8 @@ fn exports_are_seen(packages: &mut Packages, alloc: Global) -> Result<bool, Name
         "CL-USER:X",
         "COMMON-LISP-USER::X",
     )?;
-    export(packages, alloc, "KEYWORD", "X")?;
-    Ok(is_seen)
+    let is_keyword_too = exports(packages, alloc, "KEYWORD", "X")?;
+    Ok(is_exported && is_seen && is_keyword_too)
 }
 
 #[test]
@@ -311,7 +334,7 @@ fn an_export_is_seen_through_one_colon(rt: HostRuntime) -> Result<(), Fail> {
 }
 
 /// The names as texts; none of the empty one.
-fn names(alloc: Global, name: &str) -> Result<Rows<Text>, NameFault> {
+fn names(alloc: Global, name: &str) -> Result<Rows<Text>, NoMemory> {
     let mut names = Rows::new(alloc);
     if !name.is_empty() {
         names.push(Text::of(alloc, name)?)?;
@@ -326,16 +349,16 @@ fn defined(
     name: &str,
     used: &str,
     exported: &str,
-) -> Result<&'static str, NameFault> {
+) -> Result<&'static str, NoMemory> {
     let name = Text::of(alloc, name)?;
-    let uses = names(alloc, used)?;
-    let exports = names(alloc, exported)?;
-    match packages.define_package(&name, uses.as_slice(), exports.as_slice()) {
+    let used = names(alloc, used)?;
+    let exported = names(alloc, exported)?;
+    match packages.define_package(&name, used.as_slice(), exported.as_slice()) {
         Ok(()) => Ok("defined"),
         Err(NameFault::NoPackage(_)) => Ok("no package"),
         Err(NameFault::NotExternal(..)) => Ok("not external"),
         Err(NameFault::Clash) => Ok("clash"),
-        Err(fault) => Err(fault),
+        Err(NameFault::NoMemory) => Err(NoMemory),
     }
 }
 
@@ -347,7 +370,7 @@ fn defines(
     used: &str,
     exported: &str,
     want: &str,
-) -> Result<bool, NameFault> {
+) -> Result<bool, NoMemory> {
     let told = defined(packages, alloc, name, used, exported)?;
     Ok(told == want)
 }
