@@ -1,7 +1,7 @@
 mod each_function;
 
 use lisp_builtins::{BuiltinFault, call_builtin, op_of};
-use lisp_data::{Boxed, NoMemory, Rows, Sexp, Symbol, Text, Value};
+use lisp_data::{Boxed, Name, NoMemory, Rows, Sexp, Text, Value};
 use sexp_printer::print_user;
 use sexp_reader::read_form;
 use std::alloc::Global;
@@ -9,13 +9,9 @@ use std::test::Fail;
 
 /// A token's symbol: a keyword, or one of COMMON-LISP.
 fn symbol(alloc: Global, token: &str) -> Result<Value, NoMemory> {
-    let (home, name) = match token.strip_prefix(":") {
-        Some(name) => ("KEYWORD", name),
-        None => ("COMMON-LISP", token),
-    };
-    Ok(Value::Sym(Symbol {
-        home: Text::of(alloc, home)?,
-        name: Text::of(alloc, name)?,
+    Ok(Value::Sym(match token.strip_prefix(":") {
+        Some(name) => Name::keyword(alloc, name)?,
+        None => Name::common_lisp(alloc, token)?,
     }))
 }
 
@@ -38,7 +34,7 @@ fn value_of(alloc: Global, form: &Sexp) -> Result<Value, NoMemory> {
 fn called(alloc: Global, function: &Value, args: &[Value]) -> Result<Text, NoMemory> {
     let package = Text::of(alloc, "COMMON-LISP-USER")?;
     let op = match function {
-        Value::Sym(symbol) => op_of(symbol),
+        Value::Sym(name) => op_of(name.symbol()),
         _ => None,
     };
     let Some(op) = op else {

@@ -71,7 +71,7 @@ pub(crate) fn value_in(alloc: Global, form: &Ast) -> Result<Option<Value>, NoMem
 {
     match &form.row {
         Row::Literal(value) | Row::Quote(value) => Ok(Some(value.copy(alloc)?)),
-        Row::Function(name) => Ok(Some(Value::symbol(alloc, name.symbol())?)),
+        Row::Function(name) => Ok(Some(Value::symbol(alloc, name.share()?))),
         _ => Ok(None),
     }
 }

@@ -1,14 +1,15 @@
-use lisp_data::{NoMemory, Rows, Shared, Symbol, Text, Value};
+use lisp_data::{Name, NoMemory, Rows, Shared, Symbol, Text, Value};
 use lisp_syntax::unparse;
 use std::alloc::Global;
 use std::test::Fail;
-use syntax_trees::{Ast, Bare, Name, Row};
+use syntax_trees::{Ast, Bare, Row};
 
-fn variable(alloc: Global) -> Result<Symbol, NoMemory> {
-    Ok(Symbol {
+fn variable(alloc: Global) -> Result<Name, NoMemory> {
+    let symbol = Symbol {
         home: Text::of(alloc, "COMMON-LISP-USER")?,
         name: Text::of(alloc, "X")?,
-    })
+    };
+    Name::new(alloc, symbol)
 }
 
 fn node(alloc: Global, row: Row, forms: Rows<Ast>) -> Result<Ast, NoMemory> {
@@ -20,7 +21,7 @@ fn node(alloc: Global, row: Row, forms: Rows<Ast>) -> Result<Ast, NoMemory> {
 
 /// The tree of `(when x 7)`.
 fn tree(alloc: Global) -> Result<Ast, NoMemory> {
-    let name = Name::new(alloc, variable(alloc)?)?;
+    let name = variable(alloc)?;
     let mut forms = Rows::new(alloc);
     forms.push(node(alloc, Row::Variable(name), Rows::new(alloc))?)?;
     forms.push(node(alloc, Row::Literal(Value::Int(7)), Rows::new(alloc))?)?;
@@ -29,7 +30,7 @@ fn tree(alloc: Global) -> Result<Ast, NoMemory> {
 
 /// `(when x 7)`.
 fn form(alloc: Global) -> Result<Value, NoMemory> {
-    let operator = Value::Sym(Symbol::common_lisp(alloc, "WHEN")?);
+    let operator = Value::Sym(Name::common_lisp(alloc, "WHEN")?);
     let variable = Value::Sym(variable(alloc)?);
     Value::list(alloc, [operator, variable, Value::Int(7)])
 }

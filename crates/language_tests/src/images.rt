@@ -1,11 +1,11 @@
 ghost use Rattle.std.specs.Prelude.{IfOk};
 ghost use Rattle.lisp_image.specs.Image.{HasSmallOffset, IsFunctionName};
 
-use lisp_data::{NoMemory, Rows, Shared, Symbol, Text, Value};
+use lisp_data::{Name, NoMemory, Rows, Shared, Symbol, Text, Value};
 use lisp_image::{Function, Image};
 use std::alloc::Global;
 use std::test::Fail;
-use syntax_trees::{Forms, Name};
+use syntax_trees::Forms;
 
 fn symbol(alloc: Global, home: &str, name: &str) -> Result<Symbol, NoMemory> {
     Ok(Symbol {

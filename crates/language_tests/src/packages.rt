@@ -21,7 +21,10 @@ fn told(
     let package = Text::of(alloc, package)?;
     let token = Text::of(alloc, token)?;
     match packages.resolve(&package, &token) {
-        Ok(symbol) => joined(alloc, &symbol.home, "::", &symbol.name),
+        Ok(name) => {
+            let symbol = name.symbol();
+            joined(alloc, &symbol.home, "::", &symbol.name)
+        }
         Err(NameFault::NoPackage(name)) => joined(
             alloc,
             &Text::of(alloc, "no package")?,
@@ -219,7 +222,7 @@ fn places_are_known(packages: &Packages, user: &Text) -> bool {
 fn quote_is_first(packages: &Packages, alloc: Global) -> Result<bool, NoMemory> {
     let lisp = Text::of(alloc, "CL")?;
     match packages.own_at(&lisp, 0) {
-        Some((symbol, _)) => Ok(symbol.name.as_str() == "QUOTE"),
+        Some((symbol, _)) => Ok(symbol.symbol().name.as_str() == "QUOTE"),
         None => Ok(false),
     }
 }

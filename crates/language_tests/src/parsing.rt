@@ -4,17 +4,18 @@
 //! A line of a table says what becomes of a form: `FORM = ROW N` where its tree is of the row, with N subforms, and stands for that very form;
 //! `FORM ! BAD` where it has a first bad form, and `FORM !` where that is the form itself.
 
-use lisp_data::{NoMemory, Rows, Symbol, Text, Value};
+use lisp_data::{Name, NoMemory, Rows, Symbol, Text, Value};
 use lisp_syntax::{ParseFault, parse_form, unparse};
 use std::alloc::Global;
 use std::test::Fail;
 use syntax_trees::{Ast, Bare, Holder, Named, Row};
 
 fn symbol(alloc: Global, home: &str, name: &str) -> Result<Value, NoMemory> {
-    Ok(Value::Sym(Symbol {
+    let symbol = Symbol {
         home: Text::of(alloc, home)?,
         name: Text::of(alloc, name)?,
-    }))
+    };
+    Ok(Value::Sym(Name::new(alloc, symbol)?))
 }
 
 fn is_upper(word: &str) -> bool {

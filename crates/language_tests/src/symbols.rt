@@ -1,4 +1,4 @@
-use lisp_data::{NoMemory, Symbol, Value};
+use lisp_data::{Name, NoMemory, Symbol, Value};
 use std::alloc::Global;
 use std::test::Fail;
 
@@ -25,8 +25,7 @@ fn is_symbol(value: &Value) -> bool {
 
 /// The value of the symbol of COMMON-LISP with this name.
 fn value(alloc: Global, name: &str) -> Result<Value, NoMemory> {
-    let symbol = Symbol::common_lisp(alloc, name)?;
-    Value::symbol(alloc, &symbol)
+    Ok(Value::symbol(alloc, Name::common_lisp(alloc, name)?))
 }
 
 fn nil_is_the_empty_list(alloc: Global) -> Result<bool, NoMemory> {

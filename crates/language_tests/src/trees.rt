@@ -1,7 +1,7 @@
-use lisp_data::{NoMemory, Rows, Shared, Symbol, Value};
+use lisp_data::{Name, NoMemory, Rows, Shared, Symbol, Value};
 use std::alloc::Global;
 use std::test::Fail;
-use syntax_trees::{Ast, Bare, Code, Forms, Name, Row};
+use syntax_trees::{Ast, Bare, Code, Forms, Row};
 
 fn leaf(alloc: Global, row: Row) -> Result<Ast, NoMemory> {
     Ok(Ast {

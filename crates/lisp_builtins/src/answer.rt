@@ -4,7 +4,7 @@ ghost use Rattle.lisp_builtins.specs.Answers.{standard_symbol, refused_number, r
 
 use crate::op::name_of;
 use crate::{BuiltinFault, Op};
-use lisp_data::{NoMemory, Symbol, Text, Value};
+use lisp_data::{Name, NoMemory, Text, Value};
 use lisp_errors::{Wanted, value_too_large, wrong_kind, wrong_number_of_arguments};
 use std::alloc::Global;
 
@@ -12,7 +12,7 @@ use std::alloc::Global;
 pub fn standard_symbol(alloc: Global, name: &str) -> Result<Value, NoMemory>
     ensures { IfOk result (λ v. v ≡ standard_symbol name.now) }
 {
-    Ok(Value::Sym(Symbol::common_lisp(alloc, name)?))
+    Ok(Value::Sym(Name::common_lisp(alloc, name)?))
 }
 
 /// The answer to too few or too many arguments.

@@ -28,7 +28,7 @@ fn is_key(value: &Value, name: &str) -> bool
     ensures { result ≡ is_key name.now value.now }
 {
     match value {
-        Value::Sym(symbol) => symbol.is_keyword() && symbol.name.as_str() == name,
+        Value::Sym(symbol) => symbol.symbol().is_keyword() && symbol.symbol().name.as_str() == name,
         _ => false,
     }
 }

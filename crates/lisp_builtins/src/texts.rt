@@ -34,7 +34,7 @@ fn symbol_name(value: &Value) -> Option<&str>
     ensures { option_copied result ≡ symbol_name_at (out-Value value.now) }
 {
     match value {
-        Value::Sym(symbol) => Some(symbol.name.as_str()),
+        Value::Sym(name) => Some(name.symbol().name.as_str()),
         Value::List(items) if items.is_empty() => Some("NIL"),
         _ => None,
     }

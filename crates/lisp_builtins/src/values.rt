@@ -48,7 +48,7 @@ fn is_keyword(value: &Value) -> bool
     ensures { result ≡ is_keyword value.now }
 {
     match value {
-        Value::Sym(symbol) => symbol.is_keyword(),
+        Value::Sym(name) => name.symbol().is_keyword(),
         _ => false,
     }
 }
@@ -93,7 +93,9 @@ pub fn type_in(value: &Value) -> Option<TypeId>
     ensures { result ≡ type_in value.now }
 {
     match value {
-        Value::Sym(symbol) if symbol.is_of_common_lisp() => type_by_name(symbol.name.as_str()),
+        Value::Sym(name) if name.symbol().is_of_common_lisp() => type_by_name(
+            name.symbol().name.as_str(),
+        ),
         _ => None,
     }
 }

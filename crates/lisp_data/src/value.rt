@@ -7,7 +7,7 @@ ghost use Rattle.lisp_data.specs.Symbols.{value_of_symbol};
 ghost use Rattle.lisp_data.specs.Value.{weight_of, condition_weight_of, depth_of, condition_depth_of};
 ghost use Rattle.lisp_data.specs.declared.value.Value.TheVariants as value;
 
-use crate::{Boxed, NoMemory, Rows, Symbol, Text, TypeId};
+use crate::{Boxed, Name, NoMemory, Rows, Symbol, Text, TypeId};
 use std::alloc::Global;
 
 /// A condition: its type, the text that reports it, and its datum, which is NIL for all but type and cell errors.
@@ -23,7 +23,7 @@ pub struct Condition {
 pub enum Value {
     Int(i64),
     Str(Text),
-    Sym(Symbol),
+    Sym(Name),
     List(Rows<Value>),
     Cond(Boxed<Condition>),
 }
@@ -116,7 +116,7 @@ impl Value {
         ensures { IfOk result (λ made. made ≡ truth holds) }
     {
         if holds {
-            Ok(Value::Sym(Symbol::common_lisp(alloc, "T")?))
+            Ok(Value::Sym(Name::common_lisp(alloc, "T")?))
         } else {
             Ok(Value::nil(alloc))
         }
@@ -136,14 +136,14 @@ impl Value {
         Ok(Value::List(Rows::from_vec(Vec::from_array(alloc, items)?)))
     }
 
-    /// The symbol as a value: the empty list at NIL.
-    pub fn symbol(alloc: Global, symbol: &Symbol) -> Result<Value, NoMemory>
-        ensures { IfOk result (λ made. made ≡ value_of_symbol symbol.now) }
+    /// The symbol as a value, which takes no memory: the empty list at NIL.
+    pub fn symbol(alloc: Global, name: Name) -> Value
+        ensures { result ≡ value_of_symbol name }
     {
-        if symbol.is_nil() {
-            return Ok(Value::nil(alloc));
+        if name.symbol().is_nil() {
+            return Value::nil(alloc);
         }
-        Ok(Value::Sym(symbol.copy(alloc)?))
+        Value::Sym(name)
     }
 
     pub fn is_nil(&self) -> bool
@@ -180,7 +180,7 @@ impl Value {
         ensures { option_copied result ≡ value_symbol self.now }
     {
         match self {
-            Value::Sym(symbol) => Some(symbol),
+            Value::Sym(name) => Some(name.symbol()),
             _ => None,
         }
     }
@@ -194,7 +194,7 @@ impl Value {
         match self {
             Value::Int(_) => 1,
             Value::Str(text) => (text.len() as u64).saturating_add(1),
-            Value::Sym(symbol) => (symbol.name.len() as u64).saturating_add(1),
+            Value::Sym(name) => (name.symbol().name.len() as u64).saturating_add(1),
             Value::List(items) => {
                 let mut total: u64 = 1;
                 for item in items.as_slice() {
@@ -232,7 +232,7 @@ impl Value {
         match (self, other) {
             (Value::Int(a), Value::Int(b)) => a == b,
             (Value::Str(a), Value::Str(b)) => a.as_str() == b.as_str(),
-            (Value::Sym(a), Value::Sym(b)) => a.same(b),
+            (Value::Sym(a), Value::Sym(b)) => a.symbol().same(b.symbol()),
             (Value::List(a), Value::List(b)) => {
                 let (a, b) = (a.as_slice(), b.as_slice());
                 if a.len() != b.len() {
@@ -257,7 +257,7 @@ impl Value {
         match self {
             Value::Int(number) => Ok(Value::Int(*number)),
             Value::Str(text) => Ok(Value::Str(text.copy(alloc)?)),
-            Value::Sym(symbol) => Ok(Value::Sym(symbol.copy(alloc)?)),
+            Value::Sym(name) => Ok(Value::Sym(name.share()?)),
             Value::List(items) => {
                 let mut copies = Rows::new(alloc);
                 for item in items.as_slice() {

@@ -1,7 +1,7 @@
 use crate::{
     MAX_WEIGHT, Wanted, bad_form, no_part, package_not_found, unbound_variable, wrong_kind,
 };
-use lisp_data::{Condition, NoMemory, Symbol, Text, Value};
+use lisp_data::{Condition, Name, NoMemory, Symbol, Text, Value};
 use std::alloc::Global;
 use std::test::Fail;
 
@@ -18,7 +18,7 @@ fn messages_name_values_as_user_text(rt: HostRuntime) -> Result<(), Fail> {
     assert!(rt; reads(wrong, "The value \"x\" is not of type LIST.")?);
     let home = Text::of(alloc, "SWANK")?;
     let name = Text::of(alloc, "X")?;
-    let x = Value::Sym(Symbol { home, name });
+    let x = Value::Sym(Name::new(alloc, Symbol { home, name })?);
     let unbound = unbound_variable(alloc, &x, &current);
     assert!(rt; reads(unbound, "The variable SWANK::X is unbound.")?);
     assert!(rt; reads(bad_form(alloc, &x, &current), "Bad form: SWANK::X")?);

@@ -1,5 +1,5 @@
-use lisp_data::{Rows, Text};
-use syntax_trees::{Forms, Name};
+use lisp_data::{Name, Rows, Text};
+use syntax_trees::Forms;
 
 /// Where a function's text stands: the buffer, the position of the text in it, and the place of the form in the text, in characters.
 #[derive(Drop)]

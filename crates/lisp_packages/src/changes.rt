@@ -8,21 +8,21 @@ ghost use Rattle.lisp_packages.specs.Packages.{place_of, own_at, clashes, clashe
 
 use crate::naming::{COMMON_LISP, KEYWORD, new_entry};
 use crate::{Entry, NameFault, Packages};
-use lisp_data::{Symbol, Text};
+use lisp_data::{Name, Text};
 
 impl Packages {
     /// Whether the package at a place has another symbol of this one's name.
-    fn clashes(&self, place: usize, symbol: &Symbol) -> bool
+    fn clashes(&self, place: usize, symbol: &Name) -> bool
         ensures { result ≡ clashes self.now place symbol.now }
     {
-        match self.accessible(place, symbol.name.as_str()) {
-            Some(there) => !there.same(symbol),
+        match self.accessible(place, symbol.symbol().name.as_str()) {
+            Some(there) => !there.symbol().same(symbol.symbol()),
             None => false,
         }
     }
 
     /// Whether the symbol clashes in one of the packages that use the one at a place.
-    pub(crate) fn clashes_for_users(&self, place: usize, symbol: &Symbol) -> bool
+    pub(crate) fn clashes_for_users(&self, place: usize, symbol: &Name) -> bool
         ensures { result ≡ clashes_for_users self.now place symbol.now }
     {
         for user in 0..self.count() {
@@ -34,7 +34,7 @@ impl Packages {
     }
 
     /// Whether the package at the second place uses the one at the first, and the symbol clashes there.
-    fn clashes_for_user(&self, place: usize, symbol: &Symbol, user: usize) -> bool
+    fn clashes_for_user(&self, place: usize, symbol: &Name, user: usize) -> bool
         requires { user < length self.now }
         ensures { result ≡ clashes_for_user self.now place symbol.now user }
     {
@@ -43,7 +43,7 @@ impl Packages {
 
     /// The symbol that is accessible under this name in the package, else a new one. That of KEYWORD is external, and is refused
     /// where it would clash in a package that uses KEYWORD; COMMON-LISP gets no new symbol.
-    pub fn intern(&mut self, package: &Text, name: &Text) -> Result<Symbol, NameFault>
+    pub fn intern(&mut self, package: &Text, name: &Text) -> Result<Name, NameFault>
         ensures ok { IfOk result (λ symbol. in_named self.old «package».now (λ i. intern_at self.old i name.now) ≡ Ok (self.new, symbol)) }
         ensures err { IfErr result (λ why. IsCause why (in_named self.old «package».now (λ i. intern_at self.old i name.now))) }
         ensures unchanged { OnErr result (self.new ≡ self.old) }
@@ -53,7 +53,7 @@ impl Packages {
         self.intern_at(place, name.as_str())
     }
 
-    fn intern_at(&mut self, place: usize, name: &str) -> Result<Symbol, NameFault>
+    fn intern_at(&mut self, place: usize, name: &str) -> Result<Name, NameFault>
         requires { place < length self.old }
         ensures ok { IfOk result (λ symbol. intern_at self.old place name.now ≡ Ok (self.new, symbol)) }
         ensures err { IfErr result (λ why. IsCause why (intern_at self.old place name.now)) }
@@ -62,7 +62,7 @@ impl Packages {
     {
         let alloc = self.alloc();
         if let Some(symbol) = self.accessible(place, name) {
-            return Ok(symbol.copy(alloc)?);
+            return Ok(symbol.share()?);
         }
         let home = &self.get(place).name;
         let entry = new_entry(alloc, home, name)?;
@@ -72,13 +72,13 @@ impl Packages {
         if home.as_str() == COMMON_LISP {
             return Err(NameFault::NotExternal(Text::of(alloc, name)?, home.copy(alloc)?));
         }
-        let symbol = entry.symbol.copy(alloc)?;
+        let symbol = entry.symbol.share()?;
         self.add(place, entry)?;
         Ok(symbol)
     }
 
     /// Makes the symbol external in the package, and present there.
-    pub fn export(&mut self, package: &Text, symbol: &Symbol) -> Result<(), NameFault>
+    pub fn export(&mut self, package: &Text, symbol: &Name) -> Result<(), NameFault>
         ensures ok { OnOk result (in_named self.old «package».now (λ i. export_at self.old i symbol.now) ≡ Ok self.new) }
         ensures err { IfErr result (λ why. IsCause why (in_named self.old «package».now (λ i. export_at self.old i symbol.now))) }
         ensures unchanged { OnErr result (self.new ≡ self.old) }
@@ -88,7 +88,7 @@ impl Packages {
         self.export_at(place, symbol)
     }
 
-    fn export_at(&mut self, place: usize, symbol: &Symbol) -> Result<(), NameFault>
+    fn export_at(&mut self, place: usize, symbol: &Name) -> Result<(), NameFault>
         requires { place < length self.old }
         ensures ok { OnOk result (export_at self.old place symbol.now ≡ Ok self.new) }
         ensures err { IfErr result (λ why. IsCause why (export_at self.old place symbol.now)) }
@@ -99,7 +99,7 @@ impl Packages {
             return Err(NameFault::Clash);
         }
         let entry = Entry {
-            symbol: symbol.copy(self.alloc())?,
+            symbol: symbol.share()?,
             external: true,
         };
         self.put(place, entry)?;

@@ -4,7 +4,7 @@ ghost use Rattle.lisp_packages.specs.Fresh.{standard_entry, standard_own, standa
 use crate::names::STANDARD_NAMES;
 use crate::naming::{COMMON_LISP, KEYWORD};
 use crate::{Entry, Own, Package, Packages};
-use lisp_data::{NoMemory, Rows, Symbol, Text};
+use lisp_data::{Name, NoMemory, Rows, Text};
 use std::alloc::Global;
 
 /// The external symbol of this name of COMMON-LISP.
@@ -12,7 +12,7 @@ fn standard_entry(alloc: Global, name: &str) -> Result<Entry, NoMemory>
     ensures { IfOk result (λ entry. entry ≡ standard_entry name.now) }
 {
     Ok(Entry {
-        symbol: Symbol::common_lisp(alloc, name)?,
+        symbol: Name::common_lisp(alloc, name)?,
         external: true,
     })
 }

@@ -7,7 +7,7 @@ ghost use Rattle.lisp_packages.specs.Packages.{place_of, uses_at, own_at};
 
 use crate::naming::{COMMON_LISP, new_entry};
 use crate::{Entry, NameFault, Own, Package, Packages};
-use lisp_data::{NoMemory, Rows, Symbol, Text};
+use lisp_data::{Name, NoMemory, Rows, Text};
 use std::alloc::Global;
 
 /// A package of this name that has nothing yet.
@@ -63,14 +63,14 @@ impl Packages {
     }
 
     /// The symbol that a name is to have in the package at a place: the one that is accessible there, else a new one.
-    fn symbol_to_export(&self, place: usize, name: &str) -> Result<Symbol, NameFault>
+    fn symbol_to_export(&self, place: usize, name: &str) -> Result<Name, NameFault>
         requires { place < length self.now }
         ensures ok { IfOk result (λ symbol. symbol_to_export self.now place name.now ≡ Ok symbol) }
         ensures err { IfErr result (λ why. IsCause why (symbol_to_export self.now place name.now)) }
     {
         let alloc = self.alloc();
         if let Some(symbol) = self.accessible(place, name) {
-            return Ok(symbol.copy(alloc)?);
+            return Ok(symbol.share()?);
         }
         let home = &self.get(place).name;
         if home.as_str() == COMMON_LISP {

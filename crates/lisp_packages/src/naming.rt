@@ -1,6 +1,5 @@
 ghost use Rattle.std.specs.Prelude.{◌≡◌, ◌<◌, ◌++◌, [], ◌∷◌, Option, None, Some, Ok, true, false, length, slice_get, option_map, IfOk, IfErr, OnOk, OnErr};
 ghost use Rattle.std.specs.Str.{bytes_eq};
-ghost use Rattle.lisp_data.specs.Symbols.{value_of_symbol};
 ghost use Rattle.lisp_packages.specs.Causes.{IsCause, IsFault};
 ghost use Rattle.lisp_packages.specs.declared.fault.NameFault.TheVariants.{NoPackage};
 ghost use Rattle.lisp_packages.specs.Entries.{entry_of};
@@ -10,7 +9,7 @@ ghost use Rattle.lisp_packages.specs.Packages.{place_of, name_at, uses_at, own_a
 
 use crate::made::Made;
 use crate::{Entry, NameFault, Packages};
-use lisp_data::{NoMemory, Pile, Rows, Sexp, Symbol, Text, Value};
+use lisp_data::{Name, NoMemory, Pile, Rows, Sexp, Symbol, Text, Value};
 use std::alloc::Global;
 
 pub(crate) const COMMON_LISP: &str = "COMMON-LISP";
@@ -21,23 +20,14 @@ pub(crate) const KEYWORD: &str = "KEYWORD";
 pub(crate) fn new_entry(alloc: Global, home: &Text, name: &str) -> Result<Entry, NoMemory>
     ensures { IfOk result (λ entry. entry ≡ new_entry home.now name.now) }
 {
+    let symbol = Symbol {
+        home: home.copy(alloc)?,
+        name: Text::of(alloc, name)?,
+    };
     Ok(Entry {
-        symbol: Symbol {
-            home: home.copy(alloc)?,
-            name: Text::of(alloc, name)?,
-        },
+        symbol: Name::new(alloc, symbol)?,
         external: home.as_str() == KEYWORD,
     })
-}
-
-/// The symbol as a value, which takes no memory: NIL of COMMON-LISP is the empty list.
-fn symbol_value(alloc: Global, symbol: Symbol) -> Value
-    ensures { result ≡ value_of_symbol symbol }
-{
-    if symbol.is_nil() {
-        return Value::nil(alloc);
-    }
-    Value::Sym(symbol)
 }
 
 impl Packages {
@@ -63,7 +53,7 @@ impl Packages {
             return Ok(None);
         };
         if let Some(entry) = package.own.get(name) {
-            return Ok(Some(entry.copy(alloc)?));
+            return Ok(Some(entry.share()?));
         }
         if !made.has(alloc, place, name)? {
             return Ok(None);
@@ -77,7 +67,7 @@ impl Packages {
         made: &Made,
         place: usize,
         name: &str,
-    ) -> Result<Option<Symbol>, NoMemory>
+    ) -> Result<Option<Name>, NoMemory>
         ensures { IfOk result (λ symbol. symbol ≡ external_at (with_made self.now made.now) place name.now) }
     {
         match self.present(made, place, name)? {
@@ -95,7 +85,7 @@ impl Packages {
         made: &Made,
         place: usize,
         name: &str,
-    ) -> Result<Option<Symbol>, NoMemory>
+    ) -> Result<Option<Name>, NoMemory>
         ensures { IfOk result (λ symbol. symbol ≡ inherited (with_made self.now made.now) (uses_at self.now place) name.now) }
     {
         let Some(package) = self.at(place) else {
@@ -115,7 +105,7 @@ impl Packages {
         made: &Made,
         place: usize,
         name: &str,
-    ) -> Result<Option<Symbol>, NoMemory>
+    ) -> Result<Option<Name>, NoMemory>
         ensures { IfOk result (λ symbol. symbol ≡ accessible (with_made self.now made.now) place name.now) }
     {
         if let Some(entry) = self.present(made, place, name)? {
@@ -126,7 +116,7 @@ impl Packages {
     }
 
     /// Makes a symbol of a name that is new in the package at a place.
-    fn make_after(&self, made: &mut Made, place: usize, name: &str) -> Result<Symbol, NameFault>
+    fn make_after(&self, made: &mut Made, place: usize, name: &str) -> Result<Name, NameFault>
         requires within { place < length self.now }
         requires new { entry_of (own_at (with_made self.now made.old) place) name.now ≡ None }
         ensures ok { IfOk result (λ symbol. made_symbol (with_made self.now made.old) place name.now ≡ Ok (with_made self.now made.new, symbol)) }
@@ -142,7 +132,7 @@ impl Packages {
         Ok(entry.symbol)
     }
 
-    fn interned_after(&self, made: &mut Made, place: usize, name: &str) -> Result<Symbol, NameFault>
+    fn interned_after(&self, made: &mut Made, place: usize, name: &str) -> Result<Name, NameFault>
         requires { place < length self.now }
         ensures ok { IfOk result (λ symbol. interned (with_made self.now made.old) place name.now ≡ Ok (with_made self.now made.new, symbol)) }
         ensures err { IfErr result (λ why. IsCause why (interned (with_made self.now made.old) place name.now)) }
@@ -153,7 +143,7 @@ impl Packages {
         }
     }
 
-    fn keyword_after(&self, made: &mut Made, place: usize, name: &str) -> Result<Symbol, NameFault>
+    fn keyword_after(&self, made: &mut Made, place: usize, name: &str) -> Result<Name, NameFault>
         requires { place < length self.now }
         ensures ok { IfOk result (λ symbol. keyword_named (with_made self.now made.old) place name.now ≡ Ok (with_made self.now made.new, symbol)) }
         ensures err { IfErr result (λ why. IsCause why (keyword_named (with_made self.now made.old) place name.now)) }
@@ -164,12 +154,7 @@ impl Packages {
         }
     }
 
-    fn external_named_after(
-        &self,
-        made: &Made,
-        place: usize,
-        name: &str,
-    ) -> Result<Symbol, NameFault>
+    fn external_named_after(&self, made: &Made, place: usize, name: &str) -> Result<Name, NameFault>
         requires { place < length self.now }
         ensures ok { IfOk result (λ symbol. external_named (with_made self.now made.now) place name.now ≡ Ok (with_made self.now made.now, symbol)) }
         ensures err { IfErr result (λ why. IsCause why (external_named (with_made self.now made.now) place name.now)) }
@@ -185,12 +170,7 @@ impl Packages {
     }
 
     /// What stands after a package's name and a colon.
-    fn qualified_after(
-        &self,
-        made: &mut Made,
-        place: usize,
-        rest: &str,
-    ) -> Result<Symbol, NameFault>
+    fn qualified_after(&self, made: &mut Made, place: usize, rest: &str) -> Result<Name, NameFault>
         requires { place < length self.now }
         ensures ok { IfOk result (λ symbol. qualified (with_made self.now made.old) place rest.now ≡ Ok (with_made self.now made.new, symbol)) }
         ensures err { IfErr result (λ why. IsCause why (qualified (with_made self.now made.old) place rest.now)) }
@@ -208,7 +188,7 @@ impl Packages {
     }
 
     /// A token that begins with a colon, without it.
-    fn keyword_token(&self, made: &mut Made, name: &str) -> Result<Symbol, NameFault>
+    fn keyword_token(&self, made: &mut Made, name: &str) -> Result<Name, NameFault>
         ensures ok { IfOk result (λ symbol. prefixed (with_made self.now made.old) [] name.now ≡ Ok (with_made self.now made.new, symbol)) }
         ensures err { IfErr result (λ why. IsCause why (prefixed (with_made self.now made.old) [] name.now)) }
     {
@@ -219,12 +199,7 @@ impl Packages {
     }
 
     /// A token with a package's name before its first colon.
-    fn qualified_token(
-        &self,
-        made: &mut Made,
-        prefix: &str,
-        rest: &str,
-    ) -> Result<Symbol, NameFault>
+    fn qualified_token(&self, made: &mut Made, prefix: &str, rest: &str) -> Result<Name, NameFault>
         ensures ok { IfOk result (λ symbol. in_named (with_made self.now made.old) prefix.now (λ i. qualified (with_made self.now made.old) i rest.now) ≡ Ok (with_made self.now made.new, symbol)) }
         ensures err { IfErr result (λ why. IsCause why (in_named (with_made self.now made.old) prefix.now (λ i. qualified (with_made self.now made.old) i rest.now))) }
     {
@@ -234,7 +209,7 @@ impl Packages {
         }
     }
 
-    fn prefixed_after(&self, made: &mut Made, prefix: &str, rest: &str) -> Result<Symbol, NameFault>
+    fn prefixed_after(&self, made: &mut Made, prefix: &str, rest: &str) -> Result<Name, NameFault>
         ensures ok { IfOk result (λ symbol. prefixed (with_made self.now made.old) prefix.now rest.now ≡ Ok (with_made self.now made.new, symbol)) }
         ensures err { IfErr result (λ why. IsCause why (prefixed (with_made self.now made.old) prefix.now rest.now)) }
     {
@@ -246,7 +221,7 @@ impl Packages {
     }
 
     /// The symbol that a token names where the package at this place is current.
-    fn named_after(&self, made: &mut Made, current: usize, token: &str) -> Result<Symbol, NameFault>
+    fn named_after(&self, made: &mut Made, current: usize, token: &str) -> Result<Name, NameFault>
         requires { current < length self.now }
         ensures ok { IfOk result (λ symbol. named (with_made self.now made.old) current token.now ≡ Ok (with_made self.now made.new, symbol)) }
         ensures err { IfErr result (λ why. IsCause why (named (with_made self.now made.old) current token.now)) }
@@ -268,7 +243,7 @@ impl Packages {
             Sexp::Int(number) => Ok(Value::Int(*number)),
             Sexp::Str(text) => Ok(Value::Str(text.copy(alloc)?)),
             Sexp::Sym(token) => match self.named_after(made, current, token.as_str()) {
-                Ok(symbol) => Ok(symbol_value(alloc, symbol)),
+                Ok(symbol) => Ok(Value::symbol(alloc, symbol)),
                 Err(fault) => Err(fault),
             },
             Sexp::List(items) => {
@@ -336,7 +311,7 @@ impl Packages {
 
     /// The symbol that a token names where this package is current. A token without a colon names the symbol that is accessible
     /// in the package, else a new one; `:x` the keyword; `p:x` an external symbol of P; `p::x` what `x` names in P.
-    pub fn resolve(&mut self, package: &Text, token: &Text) -> Result<Symbol, NameFault>
+    pub fn resolve(&mut self, package: &Text, token: &Text) -> Result<Name, NameFault>
         ensures ok { IfOk result (λ symbol. in_named self.old «package».now (λ i. named self.old i token.now) ≡ Ok (self.new, symbol)) }
         ensures err { IfErr result (λ why. IsCause why (in_named self.old «package».now (λ i. named self.old i token.now))) }
         ensures unchanged { OnErr result (self.new ≡ self.old) }

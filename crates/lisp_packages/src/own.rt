@@ -75,7 +75,7 @@ impl Own {
         ensures err { OnErr result (self.new ≡ self.old) }
     {
         let alloc = *self.map.allocator();
-        let name = String::from_str(alloc, entry.symbol.name.as_str())?;
+        let name = String::from_str(alloc, entry.symbol.symbol().name.as_str())?;
         self.map.insert(name, entry)?;
         Ok(())
     }
@@ -87,7 +87,7 @@ impl Own {
         ensures same { IfOk result (λ new. new ≡ false → self.new ≡ self.old) }
         ensures err { OnErr result (self.new ≡ self.old) }
     {
-        if self.has(entry.symbol.name.as_str()) {
+        if self.has(entry.symbol.symbol().name.as_str()) {
             return Ok(false);
         }
         self.put(entry)?;

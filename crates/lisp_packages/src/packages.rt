@@ -8,7 +8,7 @@ ghost use Rattle.lisp_packages.specs.Made.{shortened};
 use crate::index::{add_names, find_place};
 use crate::{Entry, Package};
 use indexmap::IndexMap;
-use lisp_data::{NoMemory, Rows, Symbol, Text};
+use lisp_data::{Name, NoMemory, Rows, Text};
 use std::alloc::Global;
 use std::marker::Model;
 
@@ -92,7 +92,7 @@ impl Packages {
         self.at(place)?.own.get(name)
     }
 
-    pub(crate) fn external(&self, place: usize, name: &str) -> Option<&Symbol>
+    pub(crate) fn external(&self, place: usize, name: &str) -> Option<&Name>
         ensures { option_copied result ≡ external_at self.now place name.now }
     {
         let entry = self.own(place, name)?;
@@ -103,7 +103,7 @@ impl Packages {
         }
     }
 
-    pub(crate) fn inherited(&self, place: usize, name: &str) -> Option<&Symbol>
+    pub(crate) fn inherited(&self, place: usize, name: &str) -> Option<&Name>
         ensures { option_copied result ≡ inherited self.now (uses_at self.now place) name.now }
     {
         for used in self.at(place)?.uses.as_slice() {
@@ -116,7 +116,7 @@ impl Packages {
     }
 
     /// The symbol of a name that is accessible in the package at a place.
-    pub(crate) fn accessible(&self, place: usize, name: &str) -> Option<&Symbol>
+    pub(crate) fn accessible(&self, place: usize, name: &str) -> Option<&Name>
         ensures { option_copied result ≡ accessible self.now place name.now }
     {
         match self.own(place, name) {

@@ -5,7 +5,7 @@ ghost use Rattle.lisp_packages.specs.Naming.{in_named};
 ghost use Rattle.lisp_packages.specs.Packages.{place_of, name_at, uses_at, own_at, accessible, prompt_of};
 
 use crate::{NameFault, Packages};
-use lisp_data::{Symbol, Text};
+use lisp_data::{Name, Text};
 
 impl Packages {
     /// A copy of the full name of the package that a text names, as `*PACKAGE*` holds it.
@@ -26,7 +26,7 @@ impl Packages {
     }
 
     /// The symbol that is accessible under this name in the package; None where there is none, or no such package.
-    pub fn find_symbol(&self, package: &Text, name: &Text) -> Option<&Symbol>
+    pub fn find_symbol(&self, package: &Text, name: &Text) -> Option<&Name>
         ensures { option_copied result ≡ option_and_then (λ i. accessible self.now i name.now) (place_of self.now «package».now) }
     {
         let place = self.place(package.as_str())?;
@@ -53,7 +53,7 @@ impl Packages {
     }
 
     /// The n-th symbol present in the package, in order of interning, from 0, and whether it is external.
-    pub fn own_at(&self, package: &Text, n: u64) -> Option<(&Symbol, bool)>
+    pub fn own_at(&self, package: &Text, n: u64) -> Option<(&Name, bool)>
         ensures symbol { option_map (λ found. found.0.now) result ≡ option_map (λ entry. entry.symbol) (option_and_then (λ i. slice_get (own_at self.now i) n) (place_of self.now «package».now)) }
         ensures external { option_map (λ found. found.1) result ≡ option_map (λ entry. entry.external) (option_and_then (λ i. slice_get (own_at self.now i) n) (place_of self.now «package».now)) }
     {

@@ -7,10 +7,9 @@ ghost use Rattle.step_model.specs.Perform.{package_bound};
 ghost use Rattle.lisp_packages.specs.Packages.{place_of};
 
 use crate::current_package::{USER_PACKAGE, package_variable};
-use lisp_data::{NoMemory, Rows, Sexp, Text, Value};
+use lisp_data::{Name, NoMemory, Rows, Sexp, Text, Value};
 use lisp_image::Image;
 use std::alloc::Global;
-use syntax_trees::Name;
 use term_model::Plain;
 
 /// The heads of the requests that work in the global package.

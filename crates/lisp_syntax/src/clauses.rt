@@ -47,7 +47,7 @@ pub fn restart_clause(alloc: Global, value: &Value) -> Result<Fit, Misfit>
     let [name, parameters, forms @ ..] = list(value)? else {
         return Err(Misfit::NoRow);
     };
-    let name = restart_name(alloc, name)?;
+    let name = restart_name(name)?;
     let parameters = variables(alloc, parameters)?;
     let (report, forms) = report(alloc, forms)?;
     Ok(body(

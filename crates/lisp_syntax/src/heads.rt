@@ -11,16 +11,16 @@ use crate::operator::Operator;
 use crate::values::{
     at_most_one, designator, parameters, symbol, type_form, variable, variables, with_option,
 };
-use lisp_data::{NoMemory, Pile, Rows, Symbol, Text, TypeId, Value};
+use lisp_data::{Name, NoMemory, Pile, Rows, Text, TypeId, Value};
 use std::alloc::Global;
-use syntax_trees::{Binding, Designator, Holder, Init, Name, Named, Parameters, Row};
+use syntax_trees::{Binding, Designator, Holder, Init, Named, Parameters, Row};
 
 /// The operator's symbol alone.
 fn begun(alloc: Global, operator: Operator) -> Result<Rows<Value>, NoMemory>
     ensures { IfOk result (λ items. items ≡ operator_symbol operator ∷ []) }
 {
     let mut items = Rows::new(alloc);
-    items.push(Value::Sym(Symbol::common_lisp(alloc, operator.name())?))?;
+    items.push(Value::Sym(Name::common_lisp(alloc, operator.name())?))?;
     Ok(items)
 }
 
@@ -38,7 +38,7 @@ fn headed(alloc: Global, operator: Operator, part: Value) -> Result<Rows<Value>,
 fn defun_head(alloc: Global, name: &Name, list: &Parameters) -> Result<Rows<Value>, NoMemory>
     ensures { IfOk result (λ items. items ≡ operator_symbol op.Defun ∷ value.Sym name.now ∷ value.List (parameter_forms list.now) ∷ []) }
 {
-    let mut items = headed(alloc, Operator::Defun, variable(alloc, name)?)?;
+    let mut items = headed(alloc, Operator::Defun, variable(name)?)?;
     items.push(parameters(alloc, list)?)?;
     Ok(items)
 }
@@ -89,10 +89,10 @@ fn restart_head(
     ensures { IfOk result (λ items. items ≡ value.Sym name.now ∷ variables_form parameters.now ∷ report_forms report.now) }
 {
     let mut items = Rows::new(alloc);
-    items.push(variable(alloc, name)?)?;
+    items.push(variable(name)?)?;
     items.push(variables(alloc, parameters)?)?;
     if let Some(text) = report {
-        items.push(Value::Sym(Symbol::keyword(alloc, "REPORT")?))?;
+        items.push(Value::Sym(Name::keyword(alloc, "REPORT")?))?;
         items.push(Value::Str(text.copy(alloc)?))?;
     }
     Ok(items)
@@ -107,7 +107,7 @@ type Begun = (Rows<Value>, Pile<Value>);
 fn binding(alloc: Global, binding: &Binding, form: Value) -> Result<Value, NoMemory>
     ensures { IfOk result (λ made. made ≡ binding_form binding.now form) }
 {
-    let name = variable(alloc, &binding.variable)?;
+    let name = variable(&binding.variable)?;
     match binding.init {
         Init::Bare => Ok(name),
         Init::Empty => Value::list(alloc, [name]),
@@ -160,7 +160,7 @@ fn assignments(alloc: Global, names: &[Name], forms: Pile<Value>) -> Result<Begu
         let Some(form) = forms.pop() else {
             return Ok((items, forms));
         };
-        items.push(variable(alloc, name)?)?;
+        items.push(variable(name)?)?;
         items.push(form)?;
         rest = more;
     }
@@ -221,7 +221,7 @@ fn held_head(
     ensures items { IfOk result (λ r. r.0 ≡ held_head holder name.now (take (holder_lead holder) forms)) }
     ensures rest { IfOk result (λ r. r.1 ≡ drop (holder_lead holder) forms) }
 {
-    let name = variable(alloc, name)?;
+    let name = variable(name)?;
     match holder {
         Holder::DoTimes | Holder::DoList => {
             let mut items = Rows::new(alloc);

@@ -7,9 +7,9 @@ ghost use Rattle.lisp_syntax.specs.Table.{assignments_of, binding_of, each_with,
 
 use crate::fit::Misfit;
 use crate::parts::{condition_type, designator, is_key, list, readable, string, variable};
-use lisp_data::{NoMemory, Rows, Text, TypeId, Value};
+use lisp_data::{Name, NoMemory, Rows, Text, TypeId, Value};
 use std::alloc::Global;
-use syntax_trees::{Binding, Designator, Init, Name};
+use syntax_trees::{Binding, Designator, Init};
 
 /// Items that bring a subform each, and these. None stands for a NIL that isn't written.
 pub type Led<'a, T> = (Rows<T>, Rows<Option<&'a Value>>);
@@ -27,7 +27,7 @@ fn binding<'a>(alloc: Global, value: &'a Value) -> Result<(Binding, Option<&'a V
         },
         _ => (value, Init::Bare, None),
     };
-    let variable = readable(alloc, variable)?;
+    let variable = readable(variable)?;
     Ok((Binding { variable, init }, form))
 }
 
@@ -54,7 +54,7 @@ pub fn assignments<'a>(alloc: Global, parts: &'a [Value]) -> Result<Led<'a, Name
     let mut forms = Rows::new(alloc);
     let mut rest = parts;
     while let [name, form, more @ ..] = rest {
-        variables.push(readable(alloc, name)?)?;
+        variables.push(readable(name)?)?;
         forms.push(Some(form))?;
         rest = more;
     }
@@ -108,7 +108,7 @@ fn names(alloc: Global, items: &[Value]) -> Result<Rows<Name>, Misfit>
     let mut names = Rows::new(alloc);
     let mut rest = items;
     while let [item, more @ ..] = rest {
-        names.push(variable(alloc, item)?)?;
+        names.push(variable(item)?)?;
         rest = more;
     }
     Ok(names)
@@ -129,7 +129,7 @@ pub fn at_most_one(alloc: Global, value: &Value) -> Result<Option<Name>, Misfit>
 {
     match list(value)? {
         [] => Ok(None),
-        [name] => Ok(Some(variable(alloc, name)?)),
+        [name] => Ok(Some(variable(name)?)),
         _ => Err(Misfit::NoRow),
     }
 }

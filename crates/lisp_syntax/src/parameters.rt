@@ -6,9 +6,9 @@ ghost use Rattle.lisp_syntax.specs.Parts.{leading, optionals_of, parameters_of, 
 
 use crate::fit::Misfit;
 use crate::parts::{marks, parameter};
-use lisp_data::{NoMemory, Rows, Value};
+use lisp_data::{Name, NoMemory, Rows, Value};
 use std::alloc::Global;
-use syntax_trees::{Name, Parameters};
+use syntax_trees::Parameters;
 
 /// The parameters before the first item that is none, and what stands from there on.
 fn leading(alloc: Global, items: &[Value]) -> Result<(Rows<Name>, &[Value]), NoMemory>

@@ -7,10 +7,10 @@ ghost use Rattle.lisp_syntax.specs.Parts.{symbol_of, is_symbol, variable_of, rea
 
 use crate::fit::Misfit;
 use crate::symbols::{is_readable, is_variable};
-use lisp_data::{NoMemory, Symbol, Text, TypeId, Value};
+use lisp_data::{Name, Text, TypeId, Value};
 use lisp_types::{is_kind, type_by_name};
 use std::alloc::Global;
-use syntax_trees::{Designator, Name};
+use syntax_trees::Designator;
 
 /// The items of a list.
 pub fn list(value: &Value) -> Result<&[Value], Misfit>
@@ -31,23 +31,14 @@ pub fn string(alloc: Global, value: &Value) -> Result<Text, Misfit>
     }
 }
 
-fn name(alloc: Global, symbol: &Symbol) -> Result<Name, NoMemory>
-    ensures { IfOk result (λ name. name ≡ symbol.now) }
-{
-    Ok(Name::new(alloc, symbol.copy(alloc)?)?)
-}
-
 /// The symbol that a value is, NIL among them.
 #[tactic(auto, unfolding(crate::specs::Parts::symbol_of))]
 pub fn symbol(alloc: Global, value: &Value) -> Result<Name, Misfit>
     ensures { Finds result (symbol_of value.now) }
 {
     match value {
-        Value::Sym(symbol) if !symbol.is_nil() => Ok(name(alloc, symbol)?),
-        Value::List(items) if items.is_empty() => Ok(Name::new(
-            alloc,
-            Symbol::common_lisp(alloc, "NIL")?,
-        )?),
+        Value::Sym(name) if !name.symbol().is_nil() => Ok(name.share()?),
+        Value::List(items) if items.is_empty() => Ok(Name::common_lisp(alloc, "NIL")?),
         _ => Err(Misfit::NoRow),
     }
 }
@@ -66,33 +57,33 @@ pub fn is_symbol(value: &Value) -> bool
 
 /// What a form may bind or declare.
 #[tactic(auto, unfolding(crate::specs::Parts::variable_of))]
-pub fn variable(alloc: Global, value: &Value) -> Result<Name, Misfit>
+pub fn variable(value: &Value) -> Result<Name, Misfit>
     ensures { Finds result (variable_of value.now) }
 {
     match value {
-        Value::Sym(symbol) if is_variable(symbol) => Ok(name(alloc, symbol)?),
+        Value::Sym(name) if is_variable(name.symbol()) => Ok(name.share()?),
         _ => Err(Misfit::NoRow),
     }
 }
 
 /// What a form may assign, and `let` may bind.
 #[tactic(auto, unfolding(crate::specs::Parts::readable_of))]
-pub fn readable(alloc: Global, value: &Value) -> Result<Name, Misfit>
+pub fn readable(value: &Value) -> Result<Name, Misfit>
     ensures { Finds result (readable_of value.now) }
 {
     match value {
-        Value::Sym(symbol) if is_readable(symbol) => Ok(name(alloc, symbol)?),
+        Value::Sym(name) if is_readable(name.symbol()) => Ok(name.share()?),
         _ => Err(Misfit::NoRow),
     }
 }
 
 /// The name of a restart, which isn't NIL.
 #[tactic(auto, unfolding(crate::specs::Parts::restart_name_of))]
-pub fn restart_name(alloc: Global, value: &Value) -> Result<Name, Misfit>
+pub fn restart_name(value: &Value) -> Result<Name, Misfit>
     ensures { Finds result (restart_name_of value.now) }
 {
     match value {
-        Value::Sym(symbol) if !symbol.is_nil() => Ok(name(alloc, symbol)?),
+        Value::Sym(name) if !name.symbol().is_nil() => Ok(name.share()?),
         _ => Err(Misfit::NoRow),
     }
 }
@@ -103,7 +94,7 @@ pub fn is_key(key: &str, value: &Value) -> bool
     ensures { result ≡ is_key key.now value.now }
 {
     match value {
-        Value::Sym(symbol) => symbol.is_keyword() && symbol.name.as_str() == key,
+        Value::Sym(name) => name.symbol().is_keyword() && name.symbol().name.as_str() == key,
         _ => false,
     }
 }
@@ -114,7 +105,7 @@ pub fn marks(marker: &str, value: &Value) -> bool
     ensures { result ≡ marks marker.now value.now }
 {
     match value {
-        Value::Sym(symbol) => symbol.is_standard(marker),
+        Value::Sym(name) => name.symbol().is_standard(marker),
         _ => false,
     }
 }
@@ -134,8 +125,8 @@ pub fn condition_type(value: &Value) -> Result<TypeId, Misfit>
     ensures { Finds result (condition_type_of value.now) }
 {
     match value {
-        Value::Sym(symbol) if symbol.is_of_common_lisp() => {
-            condition_type_named(symbol.name.as_str())
+        Value::Sym(name) if name.symbol().is_of_common_lisp() => {
+            condition_type_named(name.symbol().name.as_str())
         }
         _ => Err(Misfit::NoRow),
     }

@@ -14,9 +14,9 @@ use crate::parts::{designator, list, string, symbol, variable};
 use crate::shape::{is_count, may_follow, may_hold, split};
 use crate::sort::Sort;
 use crate::symbols::is_readable;
-use lisp_data::{Rows, Symbol, Value};
+use lisp_data::{Name, Rows, Value};
 use std::alloc::Global;
-use syntax_trees::{Bare, Holder, Name, Named, Row};
+use syntax_trees::{Bare, Holder, Named, Row};
 
 /// `(OPERATOR E ..)`
 fn bare_row<'a>(alloc: Global, bare: Bare, parts: &'a [Value]) -> Result<Fit<'a>, Misfit>
@@ -77,7 +77,7 @@ fn counter_row<'a>(alloc: Global, holder: Holder, parts: &'a [Value]) -> Result<
     let [name, form] = list(counter)? else {
         return Err(Misfit::NoRow);
     };
-    let row = Row::Held(holder, variable(alloc, name)?);
+    let row = Row::Held(holder, variable(name)?);
     let mut lead = Rows::new(alloc);
     lead.push(Some(form))?;
     Ok(Fit { row, lead, body })
@@ -93,7 +93,7 @@ fn declared_row<'a>(alloc: Global, holder: Holder, parts: &'a [Value]) -> Result
     if !may_hold(holder, forms) {
         return Err(Misfit::NoRow);
     }
-    Ok(body(alloc, Row::Held(holder, variable(alloc, name)?), forms))
+    Ok(body(alloc, Row::Held(holder, variable(name)?), forms))
 }
 
 fn held_row<'a>(alloc: Global, holder: Holder, parts: &'a [Value]) -> Result<Fit<'a>, Misfit>
@@ -148,7 +148,7 @@ fn defun_row(alloc: Global, parts: &[Value]) -> Result<Fit, Misfit>
     let [name, items, forms @ ..] = parts else {
         return Err(Misfit::NoRow);
     };
-    let name = variable(alloc, name)?;
+    let name = variable(name)?;
     let parameters = parameters(alloc, list(items)?)?;
     Ok(body(alloc, Row::Defun { name, parameters }, forms))
 }
@@ -248,15 +248,15 @@ fn headed_row<'a>(alloc: Global, head: Name, parts: &'a [Value]) -> Result<Fit<'
 }
 
 /// The row of a symbol: a keyword and T stand for themselves, and a variable is one that may be read.
-fn name_row<'a>(alloc: Global, form: &Value, symbol: &Symbol) -> Result<Fit<'a>, Misfit>
-    ensures { FindsAs fitting_of result (table.name_row form.now symbol.now) }
+fn name_row<'a>(alloc: Global, form: &Value, name: &Name) -> Result<Fit<'a>, Misfit>
+    ensures { FindsAs fitting_of result (table.name_row form.now name.now) }
 {
+    let symbol = name.symbol();
     if symbol.is_keyword() || symbol.is_standard("T") {
         return Ok(body(alloc, Row::Literal(form.copy(alloc)?), &[]));
     }
     if is_readable(symbol) {
-        let name = Name::new(alloc, symbol.copy(alloc)?)?;
-        return Ok(body(alloc, Row::Variable(name), &[]));
+        return Ok(body(alloc, Row::Variable(name.share()?), &[]));
     }
     Err(Misfit::NoRow)
 }
@@ -265,7 +265,7 @@ fn form_row(alloc: Global, form: &Value) -> Result<Fit, Misfit>
     ensures { FindsAs fitting_of result (table.form_row form.now) }
 {
     match form {
-        Value::Sym(symbol) => name_row(alloc, form, symbol),
+        Value::Sym(name) => name_row(alloc, form, name),
         Value::List(items) => match items.as_slice() {
             [] => Ok(body(alloc, Row::Literal(Value::nil(alloc)), &[])),
             [head, parts @ ..] => headed_row(alloc, symbol(alloc, head)?, parts),

@@ -3,6 +3,7 @@ ghost use Rattle.lisp_syntax.specs.Parsing.{unparsed};
 ghost use Rattle.lisp_syntax.specs.Rows.{fitted, form_of};
 
 use crate::heads::head;
+use crate::values::variable;
 use lisp_data::{NoMemory, Pile, Rows, Value};
 use std::alloc::Global;
 use syntax_trees::{Ast, Row};
@@ -25,7 +26,7 @@ fn form_of(alloc: Global, row: &Row, forms: Rows<Value>) -> Result<Value, NoMemo
 {
     match row {
         Row::Literal(value) => value.copy(alloc),
-        Row::Variable(name) => Ok(Value::Sym(name.symbol().copy(alloc)?)),
+        Row::Variable(name) => variable(name),
         _ => {
             let (items, rest) = head(alloc, row, Pile::of(forms))?;
             Ok(Value::List(with_body(items, rest)?))

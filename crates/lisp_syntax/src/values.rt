@@ -5,29 +5,29 @@ ghost use Rattle.lisp_data.specs.Symbols.{keyword, value_of_symbol};
 ghost use Rattle.lisp_data.specs.declared.value.Value as value;
 ghost use Rattle.lisp_syntax.specs.Parts.{at_most_one_form, designator_form, marked, option_forms, parameter_forms, rest_marked, type_form, variables_form};
 
-use lisp_data::{NoMemory, Rows, Symbol, TypeId, Value};
+use lisp_data::{Name, NoMemory, Rows, TypeId, Value};
 use std::alloc::Global;
-use syntax_trees::{Designator, Name, Parameters};
+use syntax_trees::{Designator, Parameters};
 
 /// A variable as a value.
-pub fn variable(alloc: Global, name: &Name) -> Result<Value, NoMemory>
+pub fn variable(name: &Name) -> Result<Value, NoMemory>
     ensures { IfOk result (λ form. form ≡ value.Sym name.now) }
 {
-    Ok(Value::Sym(name.symbol().copy(alloc)?))
+    Ok(Value::Sym(name.share()?))
 }
 
 /// A symbol as a value: the empty list at NIL.
 pub fn symbol(alloc: Global, name: &Name) -> Result<Value, NoMemory>
     ensures { IfOk result (λ form. form ≡ value_of_symbol name.now) }
 {
-    Value::symbol(alloc, name.symbol())
+    Ok(Value::symbol(alloc, name.share()?))
 }
 
 /// The symbol that names a type.
 pub fn type_form(alloc: Global, kind: TypeId) -> Result<Value, NoMemory>
     ensures { IfOk result (λ form. form ≡ type_form kind) }
 {
-    Ok(Value::Sym(Symbol::common_lisp(alloc, kind.name())?))
+    Ok(Value::Sym(Name::common_lisp(alloc, kind.name())?))
 }
 
 /// These items and the symbols, each as a value.
@@ -57,7 +57,7 @@ pub fn with_optionals(
     let Some(names) = names else {
         return Ok(items);
     };
-    items.push(Value::Sym(Symbol::common_lisp(alloc, "&OPTIONAL")?))?;
+    items.push(Value::Sym(Name::common_lisp(alloc, "&OPTIONAL")?))?;
     with_symbols(alloc, items, names.as_slice())
 }
 
@@ -71,7 +71,7 @@ pub fn with_rest(
 {
     let mut items = items;
     if let Some(name) = name {
-        items.push(Value::Sym(Symbol::common_lisp(alloc, "&REST")?))?;
+        items.push(Value::Sym(Name::common_lisp(alloc, "&REST")?))?;
         items.push(symbol(alloc, name)?)?;
     }
     Ok(items)
@@ -92,7 +92,7 @@ pub fn variables(alloc: Global, names: &[Name]) -> Result<Value, NoMemory>
 {
     let mut items = Rows::new(alloc);
     for name in names {
-        items.push(variable(alloc, name)?)?;
+        items.push(variable(name)?)?;
     }
     Ok(Value::List(items))
 }
@@ -103,7 +103,7 @@ pub fn at_most_one(alloc: Global, name: &Option<Name>) -> Result<Value, NoMemory
 {
     let mut items = Rows::new(alloc);
     if let Some(name) = name {
-        items.push(variable(alloc, name)?)?;
+        items.push(variable(name)?)?;
     }
     Ok(Value::List(items))
 }
@@ -122,7 +122,7 @@ pub fn option_list(alloc: Global, key: &str, names: &[Designator]) -> Result<Val
     ensures { IfOk result (λ form. form ≡ value.List (value.Sym (keyword key.now) ∷ map designator_form names.now)) }
 {
     let mut items = Rows::new(alloc);
-    items.push(Value::Sym(Symbol::keyword(alloc, key)?))?;
+    items.push(Value::Sym(Name::keyword(alloc, key)?))?;
     for name in names {
         items.push(designator(alloc, name)?)?;
     }

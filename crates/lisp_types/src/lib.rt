@@ -122,7 +122,7 @@ pub fn type_of(value: &Value) -> TypeId
     match value {
         Value::Int(_) => TypeId::Integer,
         Value::Str(_) => TypeId::String,
-        Value::Sym(symbol) if symbol.is_keyword() => TypeId::Keyword,
+        Value::Sym(name) if name.symbol().is_keyword() => TypeId::Keyword,
         Value::Sym(_) => TypeId::Symbol,
         Value::List(items) if items.is_empty() => TypeId::Null,
         Value::List(_) => TypeId::Cons,

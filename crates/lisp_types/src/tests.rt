@@ -1,5 +1,5 @@
 use crate::{is_kind, type_by_name, type_of, type_of_condition};
-use lisp_data::{Condition, Symbol, Text, TypeId, Value};
+use lisp_data::{Condition, Name, Text, TypeId, Value};
 use std::test::Fail;
 
 #[test]
@@ -47,7 +47,7 @@ fn values_have_the_types_of_the_standard(rt: HostRuntime) -> Result<(), Fail> {
     );
     assert_eq!(rt; type_of(&Value::nil(alloc)), TypeId::Null);
     assert_eq!(rt;
-        type_of(&Value::Sym(Symbol::keyword(alloc, "A")?)),
+        type_of(&Value::Sym(Name::keyword(alloc, "A")?)),
         TypeId::Keyword
     );
     assert_eq!(rt; type_of(&Value::truth(alloc, true)?), TypeId::Symbol);

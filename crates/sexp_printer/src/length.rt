@@ -75,7 +75,7 @@ fn length_in(current: &str, escape: bool, value: &Value) -> u64
     match value {
         Value::Int(number) => integer_length(*number),
         Value::Str(text) => string_length(escape, text.as_str()),
-        Value::Sym(symbol) => symbol_length(current, symbol),
+        Value::Sym(name) => symbol_length(current, name.symbol()),
         Value::List(items) => match items.as_slice() {
             [] => 3,
             [first, others @ ..] => {

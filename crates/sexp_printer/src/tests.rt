@@ -1,5 +1,5 @@
 use crate::{print_form, print_user, print_wire};
-use lisp_data::{Boxed, Condition, NoMemory, Rows, Sexp, Symbol, Text, TypeId, Value};
+use lisp_data::{Boxed, Condition, Name, NoMemory, Rows, Sexp, Symbol, Text, TypeId, Value};
 use std::alloc::Global;
 use std::test::Fail;
 
@@ -71,10 +71,11 @@ fn forms_print_for_the_wire_and_to_be_shown(rt: HostRuntime) -> Result<(), Fail>
 }
 
 fn symbol(alloc: Global, home: &str, name: &str) -> Result<Value, NoMemory> {
-    Ok(Value::Sym(Symbol {
+    let symbol = Symbol {
         home: Text::of(alloc, home)?,
         name: Text::of(alloc, name)?,
-    }))
+    };
+    Ok(Value::Sym(Name::new(alloc, symbol)?))
 }
 
 fn error(alloc: Global, message: &str) -> Result<Value, NoMemory> {

@@ -59,7 +59,7 @@ fn write(out: &mut Text, current: &str, escape: bool, value: &Value) -> Result<(
     match value {
         Value::Int(number) => write_integer(out, *number),
         Value::Str(text) => write_string(out, escape, text.as_str()),
-        Value::Sym(symbol) => write_symbol(out, current, symbol),
+        Value::Sym(name) => write_symbol(out, current, name.symbol()),
         Value::List(items) => match items.as_slice() {
             [] => out.push_str("NIL"),
             [first, others @ ..] => {

@@ -3,7 +3,7 @@ ghost use Rattle.lisp_data.specs.declared.value.Value.TheVariants as value;
 ghost use Rattle.lisp_data.specs.Symbols.{cl};
 ghost use Rattle.swank_rpc.specs.Calls as calls;
 
-use lisp_data::{Condition, NoMemory, Sexp, Symbol, Text, TypeId, Value};
+use lisp_data::{Condition, Name, NoMemory, Sexp, Text, TypeId, Value};
 use lisp_errors::{limited, undefined_function};
 use sexp_printer::print_form;
 use std::alloc::Global;
@@ -30,7 +30,7 @@ pub fn bad_call(alloc: Global, form: &Sexp) -> Result<Condition, NoMemory>
 fn head_symbol(alloc: Global, head: &Text) -> Result<Value, NoMemory>
     ensures { IfOk result (λ symbol. symbol ≡ value.Sym (cl head.now)) }
 {
-    Ok(Value::Sym(Symbol::common_lisp(alloc, head.as_str())?))
+    Ok(Value::Sym(Name::common_lisp(alloc, head.as_str())?))
 }
 
 /// The head names no function. The package is the full name of the current one.

@@ -1,46 +1,25 @@
-//! Parses the form of standard input as often as its argument says, once where it has none, and counts the nodes of the tree. `bench/syntax` times it.
-//!
-//! The tokens of operators are symbols of COMMON-LISP here, and all others are symbols of COMMON-LISP-USER.
+//! Parses the form of standard input, as CL-USER reads it, as often as its argument says, once where it has none, and counts the nodes of the
+//! tree. `bench/syntax` times it.
 #![tactic(auto)]
 
-use lisp_data::{NoMemory, Rows, Sexp, Symbol, Text, Value};
-use lisp_syntax::{ParseFault, operator_of, parse_form};
+use lisp_data::{NoMemory, Text, Value};
+use lisp_packages::Packages;
+use lisp_syntax::{ParseFault, parse_form};
 use sexp_reader::read_form;
 use std::alloc::Global;
 use std::{env, io};
 use syntax_trees::Ast;
 
-fn symbol(alloc: Global, token: &Text) -> Result<Symbol, NoMemory> {
-    let standard = Symbol::common_lisp(alloc, token.as_str())?;
-    if operator_of(&standard).is_some() {
-        return Ok(standard);
-    }
-    Ok(Symbol {
-        home: Text::of(alloc, "COMMON-LISP-USER")?,
-        name: token.copy(alloc)?,
-    })
-}
-
-fn value_of(alloc: Global, form: &Sexp) -> Result<Value, NoMemory> {
-    match form {
-        Sexp::Int(number) => Ok(Value::Int(*number)),
-        Sexp::Str(text) => Value::string(alloc, text.as_str()),
-        Sexp::Sym(token) => Ok(Value::Sym(symbol(alloc, token)?)),
-        Sexp::List(items) => {
-            let mut values = Rows::new(alloc);
-            for item in items.as_slice() {
-                values.push(value_of(alloc, item)?)?;
-            }
-            Ok(Value::List(values))
-        }
-    }
-}
-
-/// The form of the text, NIL where it spells none.
+/// The form of the text as CL-USER reads it, NIL where it spells none.
 fn form_of(alloc: Global, text: &str) -> Result<Value, NoMemory> {
     let text = Text::of(alloc, text)?;
-    match read_form(alloc, &text) {
-        Ok(form) => value_of(alloc, &form),
+    let user = Text::of(alloc, "CL-USER")?;
+    let mut packages = Packages::new(alloc)?;
+    let Ok(form) = read_form(alloc, &text) else {
+        return Ok(Value::nil(alloc));
+    };
+    match packages.value_of(&user, &form) {
+        Ok(value) => Ok(value),
         Err(_) => Ok(Value::nil(alloc)),
     }
 }

@@ -9,11 +9,9 @@
 mod ast;
 mod code;
 mod forms;
-mod name;
 mod row;
 
 pub use ast::Ast;
 pub use code::Code;
 pub use forms::Forms;
-pub use name::Name;
 pub use row::{Bare, Binding, Designator, Holder, Init, Named, Parameters, Row};

@@ -1,5 +1,4 @@
-use crate::Name;
-use lisp_data::{Rows, Text, TypeId, Value};
+use lisp_data::{Name, Rows, Text, TypeId, Value};
 
 /// The operators whose forms have no other parts than subforms. The clauses of `cond`, `handler-case` and `restart-case` are nodes of their
 /// own, and count as subforms here.

@@ -1,8 +1,8 @@
 use crate::{Outcome, Partial};
-use lisp_data::{Condition, Pile, Rows, Text, Value};
+use lisp_data::{Condition, Name, Pile, Rows, Text, Value};
 use rpc_messages::Pattern;
 use sexp_reader::Placed;
-use syntax_trees::{Code, Forms, Name};
+use syntax_trees::{Code, Forms};
 
 /// A variable with its value.
 #[derive(Drop)]

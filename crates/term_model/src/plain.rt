@@ -1,6 +1,6 @@
 use crate::{Focus, Offer, Partial};
-use lisp_data::{Rows, Sexp, TypeId, Value};
-use syntax_trees::{Forms, Name};
+use lisp_data::{Name, Rows, Sexp, TypeId, Value};
+use syntax_trees::Forms;
 
 /// A handler of `handler-bind`: its type, and the function's name.
 #[derive(Drop)]

@@ -1,6 +1,6 @@
 use crate::Outcome;
-use lisp_data::Text;
-use syntax_trees::{Code, Name};
+use lisp_data::{Name, Text};
+use syntax_trees::Code;
 
 /// What invoking a restart does once its layer is reached: it gives this outcome, or runs this clause of `restart-case`.
 #[derive(Drop)]

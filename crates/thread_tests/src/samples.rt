@@ -1,8 +1,8 @@
 //! Parts of terms that several tests use.
 
-use lisp_data::{NoMemory, Rows, Shared, Symbol, Text, Value};
+use lisp_data::{Name, NoMemory, Rows, Shared, Symbol, Text, Value};
 use std::alloc::Global;
-use syntax_trees::{Ast, Name, Row};
+use syntax_trees::{Ast, Row};
 
 /// A symbol of COMMON-LISP-USER.
 pub(crate) fn symbol(alloc: Global, name: &str) -> Result<Symbol, NoMemory> {

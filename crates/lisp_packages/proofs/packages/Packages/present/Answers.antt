@@ -12,8 +12,8 @@ returns-in_default c =
 pub returns-in-Some-get : goal.returns-in-Some-get
 returns-in-Some-get c =
     let there : slice_get c.args.self.now c.args.place ≡ Some c.in-Some.package.now = search rules in
-    let found : entry_of c.in-Some.package.now.own c.args.name.now ≡ Some c.in_ok-copy.field-0 = search rules in
-    sym (present-own c.args.self.now c.args.made.now c.args.place c.args.name.now c.in-Some.package.now c.in_ok-copy.field-0 there found)
+    let found : entry_of c.in-Some.package.now.own c.args.name.now ≡ Some c.in_ok-share.field-0 = search rules in
+    sym (present-own c.args.self.now c.args.made.now c.args.place c.args.name.now c.in-Some.package.now c.in_ok-share.field-0 there found)
 
 pub returns-then-not-branch : goal.returns-then-not-branch
 returns-then-not-branch c =
