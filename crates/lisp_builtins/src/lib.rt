@@ -12,6 +12,7 @@ mod answer;
 mod call;
 mod conditions;
 mod fault;
+mod laws;
 mod lists;
 mod numbers;
 mod op;
@@ -21,4 +22,5 @@ mod values;
 
 pub use call::call_builtin;
 pub use fault::BuiltinFault;
+pub use laws::each_one_step_function_is_found;
 pub use op::{Op, name_of, op_of};

@@ -6,6 +6,7 @@ pub mod NamedLemmas
 pub mod OwnLemmas
 pub mod PackagesLemmas
 pub mod SetLemmas
+pub mod StandardLemmas
 pub mod TextLemmas
 pub mod TokenLemmas
 pub mod UndoneLemmas

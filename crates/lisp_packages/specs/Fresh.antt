@@ -29,3 +29,7 @@ standard_packages = fresh_packages (map (λ name. name.now) constant.STANDARD_NA
 pub standard_packages-is : standard_packages ≡ fresh_packages (map (λ name. name.now) constant.STANDARD_NAMES)
 unfolding standard_packages
 standard_packages-is = refl
+
+-- the names of COMMON-LISP
+abbrev pub standard_names : List (List ℕ)
+standard_names = map (λ name. name.now) constant.STANDARD_NAMES

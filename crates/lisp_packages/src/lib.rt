@@ -11,6 +11,7 @@ mod entry;
 mod fault;
 mod fresh;
 mod index;
+mod laws;
 mod lisp_package;
 mod made;
 mod making;
@@ -22,6 +23,7 @@ mod read;
 
 pub use entry::Entry;
 pub use fault::NameFault;
+pub use laws::the_standard_names_stand_once;
 pub use lisp_package::Package;
 pub use own::Own;
 pub use packages::Packages;

@@ -3,3 +3,4 @@ pub mod Simple
 pub mod Beside
 pub mod Leaving
 pub mod Going
+pub mod Standard

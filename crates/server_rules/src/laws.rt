@@ -1,5 +1,15 @@
 //! The laws of the rows that are built, as the clauses of functions that do nothing.
+ghost use Rattle.std.specs.List.{list_all};
 ghost use Rattle.std.specs.Prelude.{◌≡◌, ℕ, true, false, List, []};
+ghost use Rattle.lisp_builtins.specs.Names as one_step;
+ghost use Rattle.lisp_builtins.specs.declared.op.Op.{Op};
+ghost use Rattle.lisp_data.specs.TypeNames as type;
+ghost use Rattle.lisp_data.specs.declared.type_id.TypeId.{TypeId};
+ghost use Rattle.lisp_packages.specs.Fresh.{standard_names};
+ghost use Rattle.lisp_syntax.specs.Operators as operator;
+ghost use Rattle.lisp_syntax.specs.declared.operator.Operator.{Operator};
+ghost use Rattle.step_model.specs.MachineFunctions.{machine_name};
+ghost use Rattle.step_model.specs.declared.machine_function.MachineFunction.{MachineFunction};
 ghost use Rattle.step_model.specs.Now.{Now};
 ghost use Rattle.step_model.specs.Perform.{lays, perform};
 ghost use Rattle.step_model.specs.Step.{announced, begun, is_built, step};
@@ -18,6 +28,7 @@ ghost use Rattle.server_rules.specs.Going.{entered, laid_in};
 ghost use Rattle.server_rules.specs.Leaving.{aborts, left, left_all};
 ghost use Rattle.server_rules.specs.Rules.{rules};
 ghost use Rattle.server_rules.specs.Simple.{are_simple};
+ghost use Rattle.server_rules.specs.Standard.{AreStandard, IsStandard, is_known, other_names};
 
 /// A step of a thread whose layers are simple changes none of what stands beside the thread.
 pub fn steps_leave_the_rest()
@@ -49,4 +60,14 @@ pub fn what_is_not_built_leaves()
     ensures unbuilt { (n : Now) → are_simple n.context ≡ true → is_built rules n ≡ false → step rules n ≡ left n }
     ensures abort { (n : Now) → are_simple n.context ≡ true → n.redex ≡ focus.Abort → step rules n ≡ left n }
     ensures messages { (t : ℕ) (c : Context) → messages_in (left_all t c) ≡ aborts c }
+{}
+
+/// Each name that the language has is that of an external symbol of COMMON-LISP, and each of its symbols has such a name.
+pub fn the_names_of_the_language_are_standard()
+    ensures operator { (o : Operator) → IsStandard (operator.name_of o) }
+    ensures one_step { (o : Op) → IsStandard (one_step.name_of o) }
+    ensures machine { (f : MachineFunction) → IsStandard (machine_name f) }
+    ensures types { (t : TypeId) → IsStandard (type.name_of t) }
+    ensures other { AreStandard other_names }
+    ensures known { list_all is_known standard_names ≡ true }
 {}

@@ -8,5 +8,6 @@
 mod laws;
 
 pub use laws::{
-    no_level_is_opened, steps_leave_the_rest, threads_stay_simple, what_is_not_built_leaves,
+    no_level_is_opened, steps_leave_the_rest, the_names_of_the_language_are_standard,
+    threads_stay_simple, what_is_not_built_leaves,
 };

@@ -1,7 +1,8 @@
 //! The laws of a thread's steps, as the clauses of functions that do nothing. They hold whatever the functions beside the thread give.
-ghost use Rattle.std.specs.Prelude.{◌≡◌, ◌+◌, ◌≤◌, [], ℤ, Some, true, is_some};
+ghost use Rattle.std.specs.Prelude.{◌≡◌, ◌↔◌, ◌+◌, ◌≤◌, [], ℤ, Some, true, is_some};
 ghost use Rattle.lisp_data.specs.declared.sexp.Sexp.TheVariants as form;
 ghost use Rattle.lisp_data.specs.Symbols.{cl};
+ghost use Rattle.lisp_data.specs.declared.symbol.Symbol.{Symbol};
 ghost use Rattle.rpc_messages.specs.declared.pattern.Pattern.TheVariants as pattern;
 ghost use Rattle.term_model.specs.Breaks.{broken_at, may_open};
 ghost use Rattle.term_model.specs.Levels.{current_level};
@@ -65,7 +66,7 @@ pub fn a_stale_restart_does_nothing()
     ensures { (rules : Rules) (n : Now) (k i : ℤ) → n.redex ≡ focus.Rpc → rules.is_served (asked n).form ≡ true → rules.command (asked n) ≡ InvokesNth k i → IsStale (current_level n.context) k i → step rules n ≡ puts (begun n) n.context (focus.Given (outcome.Reply (form.List []))) }
 {}
 
-/// Each function that the machine runs is found by its name.
+/// Each function that the machine runs is found by its symbol, and by no other.
 pub fn each_machine_function_is_found()
-    ensures { (f : MachineFunction) → machine_function (cl (machine_name f)) ≡ Some f }
+    ensures { (s : Symbol) (f : MachineFunction) → (machine_function s ≡ Some f) ↔ (s ≡ cl (machine_name f)) }
 {}

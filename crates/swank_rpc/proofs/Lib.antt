@@ -3,3 +3,4 @@ pub mod SizeLemmas
 pub mod NameLemmas
 pub mod ListLemmas
 pub mod CarryLemmas
+pub mod HeadLemmas

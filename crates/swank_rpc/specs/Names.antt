@@ -1,9 +1,12 @@
 -- The names of the functions that a request may call, and how a call's head names one.
-use Rattle.std.specs.Prelude.{ℕ, Bool, false, ◌&&◌, ◌||◌, if◌then◌else◌, List, take, drop, codes, Option, Some, None, option_and_then}
+use Rattle.std.specs.Prelude.{◌≡◌, ℕ, Bool, false, true, not, ◌&&◌, ◌||◌, if◌then◌else◌, List, [], ◌∷◌, ◌++◌, take, drop, codes, Option, Some, None, option_and_then}
 use Rattle.std.specs.List.{find, list_any, before_first, after_first}
 use Rattle.std.specs.Option.{option_map_or}
 use Rattle.std.specs.Str.{bytes_eq, str_eq_ignore_ascii_case}
+use Rattle.lisp_data.specs.declared.sexp.Sexp.{Sexp}
+use Rattle.lisp_data.specs.declared.sexp.Sexp.TheVariants as form
 use Rattle.lisp_packages.specs.Naming.{is_colon}
+use Rattle.step_model.specs.CurrentPackage.{binds_package}
 use Rattle.swank_rpc.specs.declared.function.SwankFunction.{SwankFunction}
 use Rattle.swank_rpc.specs.declared.function.SwankFunction.TheVariants as function
 use Rattle.swank_rpc.specs.declared.function.TheConstants.{FUNCTIONS, UNBUILT}
@@ -48,3 +51,26 @@ function_of token = option_and_then named (name_in token)
 -- whether a call's head names a function that is not built
 abbrev pub is_unbuilt : List ℕ → Bool
 is_unbuilt token = option_map_or named_unbuilt (name_in token) false
+
+-- ---- each function, by each of its heads
+
+-- what may stand before a function's name
+abbrev pub prefixes : List (List ℕ)
+prefixes = codes "SWANK:" ∷ codes "SWANK::" ∷ codes "SWANK-REPL:" ∷ codes "SWANK-REPL::" ∷ []
+
+-- the function's name behind each of these is a head that names it
+abbrev pub IsFoundBehind : SwankFunction → List (List ℕ) → Type 0
+IsFoundBehind f [] = Unit {0}
+IsFoundBehind f (prefix ∷ more) = (function_of (prefix ++ name_of f) ≡ Some f) × IsFoundBehind f more
+
+-- whether a function works in the global package, so that a request of it binds no package
+abbrev pub is_global : SwankFunction → Bool
+is_global function.CreateRepl = true
+is_global function.ListenerEval = true
+is_global _ = false
+
+-- a call of the function by its name behind each of these binds the package, unless the function works in the global one
+abbrev pub BindsBehind : SwankFunction → List Sexp → List (List ℕ) → Type 0
+BindsBehind f arguments [] = Unit {0}
+BindsBehind f arguments (prefix ∷ more) =
+    (binds_package (form.List (form.Sym (prefix ++ name_of f) ∷ arguments)) ≡ not (is_global f)) × BindsBehind f arguments more

@@ -22,4 +22,6 @@ pub use answer::Answer;
 pub use call::is_served;
 pub use calling::call_rpc;
 pub use ending::end_rpc;
-pub use laws::requests_are_carried_out;
+pub use laws::{
+    calls_bind_their_package, each_function_is_found_by_its_name, requests_are_carried_out,
+};

@@ -1,5 +1,5 @@
-use Rattle.step_model.proofs.MachineFunctionLemmas.{found}
+use Rattle.step_model.proofs.MachineFunctionLemmas.{machine-functions-iff}
 use Rattle.step_model.proofs.laws.each_machine_function_is_found.Goals as goal
 
-abbrev pub returns : goal.returns
-returns c = λ f. found f
+pub returns : goal.returns
+returns c = machine-functions-iff
