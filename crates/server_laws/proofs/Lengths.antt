@@ -21,24 +21,24 @@ use Rattle.rpc_messages.specs.Cut.{cut, max_shown}
 use Rattle.server_laws.specs.Small.{max_packet}
 use Rattle.sexp_printer.specs.Printed.{changed, quoted, escaped, others_of, in_parentheses, text_step, printed}
 
-printed-int : (z : ℤ) → printed (form.Int z) ≡ signed_decimal z
+pub printed-int : (z : ℤ) → printed (form.Int z) ≡ signed_decimal z
 printed-int z = ap printed (sym (rolls-Int z)) ∙ fold-roll-Sexp (List ℕ) (text_step to_ascii_lowercase) (Sexp-F.Int z)
 
 printed-str : (text : List ℕ) → printed (form.Str text) ≡ quoted text
 printed-str text = ap printed (sym (rolls-Str text)) ∙ fold-roll-Sexp (List ℕ) (text_step to_ascii_lowercase) (Sexp-F.Str text)
 
-printed-sym : (token : List ℕ) → printed (form.Sym token) ≡ changed to_ascii_lowercase token
+pub printed-sym : (token : List ℕ) → printed (form.Sym token) ≡ changed to_ascii_lowercase token
 printed-sym token = ap printed (sym (rolls-Sym token)) ∙ fold-roll-Sexp (List ℕ) (text_step to_ascii_lowercase) (Sexp-F.Sym token)
 
-printed-list : (xs : List Sexp) → printed (form.List xs) ≡ in_parentheses (changed to_ascii_lowercase (codes "NIL")) (map printed xs)
+pub printed-list : (xs : List Sexp) → printed (form.List xs) ≡ in_parentheses (changed to_ascii_lowercase (codes "NIL")) (map printed xs)
 printed-list xs = ap printed (sym (rolls-List xs)) ∙ fold-roll-Sexp (List ℕ) (text_step to_ascii_lowercase) (Sexp-F.List xs)
 
 -- ---- texts
 
-abbrev is_plain : List ℕ → Bool
+abbrev pub is_plain : List ℕ → Bool
 is_plain text = list_all (λ c. nat_lt c 128) text
 
-ascii : (text : List ℕ) → is_plain text ≡ true → IsAscii text
+pub ascii : (text : List ℕ) → is_plain text ≡ true → IsAscii text
 ascii [] h = IsAscii-nil
 ascii (c ∷ cs) h = let p = and_parts (nat_lt c 128) (is_plain cs) h in IsAscii-cons c cs (ltb-true c 128 p.0) (ascii cs p.1)
 

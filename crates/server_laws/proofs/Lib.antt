@@ -9,3 +9,4 @@ pub mod Workers
 pub mod Sessions
 pub mod Fresh
 pub mod Payloads
+pub mod StaleRequests

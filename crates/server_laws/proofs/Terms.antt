@@ -1,4 +1,5 @@
--- What holds of a thread: its layers are simple, the replies in it are short, and the ids of its requests have 64 bits.
+-- What holds of a thread: its layers are simple, and the replies in it are short; and, where what arrives is small, the ids of its requests
+-- have 64 bits. What is small is a premise of that alone, so that the other facts hold of every journal.
 use mir.Syntax.{w64}
 use Rattle.std.proofs.Common.{◌≡◌, ℕ, zero, suc, Bool, true, false, List, [], ◌∷◌, Option, Some, None, refl}
 use Rattle.std.specs.Prelude.{FitsSigned}
@@ -34,59 +35,58 @@ PlainFits (plain.Before f) = RedexFits f
 PlainFits (plain.Restarts offers) = ⊥
 PlainFits _ = Unit {0}
 
-abbrev pub LayerFits : Frame → Type 0
-LayerFits (frame.On p) = PlainFits p
-LayerFits (frame.Rex i id form) = FitsSigned w64 id
-LayerFits _ = ⊥
-
-abbrev pub LayersFit : Context → Type 0
-LayersFit [] = Unit {0}
-LayersFit (l ∷ c) = LayerFits l × LayersFit c
+abbrev pub PlainsFit : List Plain → Type 0
+PlainsFit [] = Unit {0}
+PlainsFit (p ∷ ps) = PlainFits p × PlainsFit ps
 
 no_restarts : (p : Plain) → PlainFits p → has_no_restarts p ≡ true
 no_restarts (plain.Restarts offers) h = absurd h
 no_restarts p h = refl
 
--- such layers are simple
-pub layers_simple : (c : Context) → LayersFit c → are_simple c ≡ true
-layers_simple [] h = refl
-layers_simple (frame.On p ∷ c) h = and_from (has_no_restarts p) (are_simple c) (no_restarts p h.0) (layers_simple c h.1)
-layers_simple (frame.Rex i id form ∷ c) h = layers_simple c h.1
-layers_simple (frame.Protect k cleanup ∷ c) h = absurd h.0
-layers_simple (frame.Cleanup k kept ∷ c) h = absurd h.0
-layers_simple (frame.Sldb n condition again ∷ c) h = absurd h.0
-layers_simple (frame.Ask kind tag ∷ c) h = absurd h.0
-
--- ---- going in
-
 no_outcome : (f : Focus) → is_no_outcome f ≡ true → RedexFits f
 no_outcome (focus.Given o) h = absurd (false≢true h)
 no_outcome f h = tt
-
-abbrev pub PlainsFit : List Plain → Type 0
-PlainsFit [] = Unit {0}
-PlainsFit (p ∷ ps) = PlainFits p × PlainsFit ps
 
 abbrev OptionFits : Option Focus → Type 0
 OptionFits None = Unit {0}
 OptionFits (Some f) = RedexFits f
 
-pub record EnteredFits (e : Entered) : Type 0 where
-  pub around : LayersFit e.around
-  pub redex : OptionFits e.redex
+module _ (Small : Type 0) where
+  abbrev pub LayerFits : Frame → Type 0
+  LayerFits (frame.On p) = PlainFits p
+  LayerFits (frame.Rex i id form) = Small → FitsSigned w64 id
+  LayerFits _ = ⊥
 
-enter_fits : (space : ℕ) (c : Context) (found : Found) → LayersFit c → IsSimpleFound found → EnteredFits (enter space c found)
-enter_fits space c (Already v) h k = record { around = h; redex = tt }
-enter_fits space c (Here f) h k = record { around = h; redex = no_outcome f k }
-enter_fits zero c (Inside p e) h k = record { around = h; redex = tt }
-enter_fits (suc space) c (Inside p e) h k = enter_fits space (frame.On (plain.Form p) ∷ c) (look e) (tt, h) (look_simple e)
+  abbrev pub LayersFit : Context → Type 0
+  LayersFit [] = Unit {0}
+  LayersFit (l ∷ c) = LayerFits l × LayersFit c
 
-wrap_fits : (space : ℕ) (c : Context) (ps : List Plain) (found : Found) → LayersFit c → PlainsFit ps → IsSimpleFound found → EnteredFits (wrap space c ps found)
-wrap_fits space c [] found h g k = enter_fits space c found h k
-wrap_fits zero c (p ∷ []) (Already v) h g k = record { around = (g.0, h); redex = tt }
-wrap_fits zero c (p ∷ ps) found h g k = record { around = h; redex = tt }
-wrap_fits (suc space) c (p ∷ ps) found h g k = wrap_fits space (frame.On p ∷ c) ps found (g.0, h) g.1 k
+  -- such layers are simple
+  pub layers_simple : (c : Context) → LayersFit c → are_simple c ≡ true
+  layers_simple [] h = refl
+  layers_simple (frame.On p ∷ c) h = and_from (has_no_restarts p) (are_simple c) (no_restarts p h.0) (layers_simple c h.1)
+  layers_simple (frame.Rex i id form ∷ c) h = layers_simple c h.1
+  layers_simple (frame.Protect k cleanup ∷ c) h = absurd h.0
+  layers_simple (frame.Cleanup k kept ∷ c) h = absurd h.0
+  layers_simple (frame.Sldb n condition again ∷ c) h = absurd h.0
+  layers_simple (frame.Ask kind tag ∷ c) h = absurd h.0
 
-pub entered_fits : (b : Bool) (c : Context) (ps : List Plain) (found : Found) → LayersFit c → PlainsFit ps → IsSimpleFound found → EnteredFits (entered b c ps found)
-entered_fits true c ps found h g k = wrap_fits (room c) c ps found h g k
-entered_fits false c ps found h g k = record { around = h; redex = tt }
+  pub record EnteredFits (e : Entered) : Type 0 where
+    pub around : LayersFit e.around
+    pub redex : OptionFits e.redex
+
+  enter_fits : (space : ℕ) (c : Context) (found : Found) → LayersFit c → IsSimpleFound found → EnteredFits (enter space c found)
+  enter_fits space c (Already v) h k = record { around = h; redex = tt }
+  enter_fits space c (Here f) h k = record { around = h; redex = no_outcome f k }
+  enter_fits zero c (Inside p e) h k = record { around = h; redex = tt }
+  enter_fits (suc space) c (Inside p e) h k = enter_fits space (frame.On (plain.Form p) ∷ c) (look e) (tt, h) (look_simple e)
+
+  wrap_fits : (space : ℕ) (c : Context) (ps : List Plain) (found : Found) → LayersFit c → PlainsFit ps → IsSimpleFound found → EnteredFits (wrap space c ps found)
+  wrap_fits space c [] found h g k = enter_fits space c found h k
+  wrap_fits zero c (p ∷ []) (Already v) h g k = record { around = (g.0, h); redex = tt }
+  wrap_fits zero c (p ∷ ps) found h g k = record { around = h; redex = tt }
+  wrap_fits (suc space) c (p ∷ ps) found h g k = wrap_fits space (frame.On p ∷ c) ps found (g.0, h) g.1 k
+
+  pub entered_fits : (b : Bool) (c : Context) (ps : List Plain) (found : Found) → LayersFit c → PlainsFit ps → IsSimpleFound found → EnteredFits (entered b c ps found)
+  entered_fits true c ps found h g k = wrap_fits (room c) c ps found h g k
+  entered_fits false c ps found h g k = record { around = h; redex = tt }

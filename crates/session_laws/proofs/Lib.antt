@@ -25,5 +25,6 @@ pub mod Rooms
 pub mod Stale
 pub mod Pending
 pub mod Prompt
+pub mod MomentLemmas
 pub mod Lawful
 pub mod EndsFacts

@@ -1,4 +1,5 @@
 pub mod Seen
+pub mod Moments
 pub mod Counting
 pub mod LevelsNest
 pub mod CleansOnce
