@@ -1,7 +1,7 @@
 ghost use Rattle.std.specs.Prelude.{◌≡◌, ◌↔◌, [], IsTrue, IfOk};
 ghost use Rattle.std.specs.Option.{option_copied};
 ghost use Rattle.lisp_data.specs.Parts.{form_items, form_text, form_token};
-ghost use Rattle.lisp_data.specs.Sexp.{weight_of, depth_of, capped};
+ghost use Rattle.lisp_data.specs.Sexp.{capped, depth_of, nil, weight_of};
 ghost use Rattle.lisp_data.specs.declared.sexp.Sexp.TheVariants as form;
 
 use crate::{NoMemory, Rows, Text};
@@ -60,7 +60,7 @@ impl Sexp {
 
     /// NIL, the empty list, which takes no memory.
     pub fn nil(alloc: Global) -> Sexp
-        ensures { result ≡ form.List [] }
+        ensures { result ≡ nil }
     {
         Sexp::List(Rows::new(alloc))
     }

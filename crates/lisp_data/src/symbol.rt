@@ -6,10 +6,10 @@ use crate::{NoMemory, Text};
 use std::alloc::Global;
 
 /// The home of the symbols that the language itself gives a meaning.
-const COMMON_LISP: &str = "COMMON-LISP";
+pub const COMMON_LISP: &str = "COMMON-LISP";
 
 /// The home of the keywords.
-const KEYWORD: &str = "KEYWORD";
+pub const KEYWORD: &str = "KEYWORD";
 
 /// A symbol: the full name of its home package, and its own name. Two symbols are the same where both agree.
 pub struct Symbol {

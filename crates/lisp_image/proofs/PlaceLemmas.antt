@@ -4,7 +4,7 @@ use Rattle.std.specs.Bool.{Decides, one_answer}
 use Rattle.std.specs.Str.{bytes_eq}
 use Rattle.std.proofs.lemmas.Slice.Eq.{bytes_eq-Decides}
 use Rattle.lisp_data.specs.declared.symbol.Symbol.{Symbol}
-use Rattle.lisp_packages.specs.Packages.{same_symbol}
+use Rattle.lisp_data.specs.Same.{same_symbol}
 use Rattle.lisp_image.specs.SymbolMap.{is_for, value_of, with_value}
 use Rattle.indexmap.specs.IndexMap.{IndexMap}
 use Rattle.lisp_image.specs.Places.{number_of, place_of, IsIndexed, with_value_at}

@@ -3,8 +3,8 @@ use Rattle.std.specs.Prelude.{◌≢◌, ◌<◌, ◌^◌, ℕ, Bool, is_some, L
 use Rattle.lisp_data.specs.declared.symbol.Symbol.{Symbol}
 use Rattle.lisp_data.specs.declared.value.Value.{Value}
 use Rattle.lisp_data.specs.declared.value.Value.TheVariants as value
+use Rattle.lisp_data.specs.Symbols.{cl, common_lisp, keyword_package}
 use Rattle.lisp_packages.specs.declared.lisp_package.Package.{Package}
-use Rattle.lisp_packages.specs.Naming.{common_lisp, keyword}
 use Rattle.lisp_image.specs.declared.function.Function.{Function}
 use Rattle.lisp_image.specs.SymbolMap.{value_of, with_value}
 
@@ -53,7 +53,7 @@ with_packages image ps = record image { packages = ps }
 -- the symbol may name a user function: it is no symbol of COMMON-LISP and no keyword
 pub record IsFunctionName (s : Symbol) : Type 0 where
   pub not_standard : s.home ≢ common_lisp
-  pub not_keyword : s.home ≢ keyword
+  pub not_keyword : s.home ≢ keyword_package
 
 -- the place of the function's text, if it has one, has an offset that a signed number holds
 abbrev pub HasSmallOffset : Function → Type 0
@@ -61,7 +61,7 @@ HasSmallOffset f = MatchOption f.source (Unit {0}) (λ place. place.offset < 2 ^
 
 -- the variable that holds the name of the current package
 abbrev pub package_variable : Symbol
-package_variable = record { home = common_lisp; name = codes "*PACKAGE*" }
+package_variable = cl (codes "*PACKAGE*")
 
 -- the image with these packages, `*PACKAGE*` special with the global value "COMMON-LISP-USER", and no other global, special or function
 abbrev pub fresh_image : List Package → ImageState

@@ -1,7 +1,7 @@
 -- Finite maps from symbols: the list of the symbols with their values, in order of first entry, each symbol once.
 use Rattle.std.specs.Prelude.{Bool, List, [], ◌∷◌, Option, find, option_map, if◌then◌else◌}
 use Rattle.lisp_data.specs.declared.symbol.Symbol.{Symbol}
-use Rattle.lisp_packages.specs.Packages.{same_symbol}
+use Rattle.lisp_data.specs.Same.{same_symbol}
 
 module _ {V : Type 0} where
   -- whether the entry is the symbol's

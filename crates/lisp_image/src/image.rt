@@ -47,10 +47,7 @@ impl Drop for Image {
 fn package_variable(alloc: Global) -> Result<Symbol, NoMemory>
     ensures { IfOk result (λ symbol. symbol ≡ package_variable) }
 {
-    Ok(Symbol {
-        home: Text::of(alloc, "COMMON-LISP")?,
-        name: Text::of(alloc, "*PACKAGE*")?,
-    })
+    Symbol::common_lisp(alloc, "*PACKAGE*")
 }
 
 impl Image {

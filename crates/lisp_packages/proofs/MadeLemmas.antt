@@ -6,12 +6,13 @@ use Rattle.std.specs.Option.{option_or, option_map_or}
 use Rattle.std.proofs.lemmas.Slice.Eq.{bytes_eq-Decides}
 use Rattle.std.proofs.lemmas.List.Folds.{find-append}
 use Rattle.std.proofs.lemmas.List.Sums.{fold-append}
+use Rattle.lisp_data.specs.Symbols.{common_lisp}
 use Rattle.lisp_packages.specs.declared.entry.Entry.{Entry}
 use Rattle.lisp_packages.specs.declared.lisp_package.Package.{Package}
 use Rattle.lisp_packages.specs.Entries.{has_name, entry_of, added}
 use Rattle.lisp_packages.specs.declared.fault.NameFault.{NameFault}
 use Rattle.lisp_packages.specs.declared.fault.NameFault.TheVariants.{NoPackage, NotExternal}
-use Rattle.lisp_packages.specs.Naming.{new_entry, with_new, common_lisp, made_symbol, external_named, in_named}
+use Rattle.lisp_packages.specs.Naming.{new_entry, with_new, made_symbol, external_named, in_named}
 use Rattle.lisp_packages.specs.Packages.{is_named, place_of, name_at, own_at, uses_at, with_own, external_at, inherited, accessible}
 use Rattle.lisp_packages.specs.Made.{has_made, with_made, with_made_at, shortened}
 use Rattle.lisp_packages.proofs.PackagesLemmas.{with_own-with_own, own_at-with_own, with_own-own_at, with_own-past}

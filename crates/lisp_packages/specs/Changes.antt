@@ -5,12 +5,13 @@ use Rattle.std.specs.List.{list_any}
 use Rattle.std.specs.Option.{option_map_or}
 use Rattle.std.specs.Str.{bytes_eq}
 use Rattle.lisp_data.specs.declared.symbol.Symbol.{Symbol}
+use Rattle.lisp_data.specs.Symbols.{keyword_package}
 use Rattle.lisp_packages.specs.declared.entry.Entry.{Entry}
 use Rattle.lisp_packages.specs.declared.fault.NameFault.{NameFault}
 use Rattle.lisp_packages.specs.declared.fault.NameFault.TheVariants as fault
 use Rattle.lisp_packages.specs.declared.lisp_package.Package.{Package}
 use Rattle.lisp_packages.specs.Entries.{put_entry}
-use Rattle.lisp_packages.specs.Naming.{keyword, Named, made_symbol, new_entry}
+use Rattle.lisp_packages.specs.Naming.{Named, made_symbol, new_entry}
 use Rattle.lisp_packages.specs.Packages.{name_at, uses_at, own_at, accessible, clashes, clashes_for_users, with_own, with_uses}
 
 -- the answer of a change: the packages afterwards
@@ -20,7 +21,7 @@ Changed = Result (List Package) NameFault
 -- the symbol of a name in the package at a place, else a new one; a new keyword may not clash for those that use KEYWORD
 abbrev pub intern_at : List Package → ℕ → List ℕ → Named
 intern_at ps i name = option_map_or (λ symbol. Ok (ps, symbol)) (accessible ps i name)
-    (if bytes_eq (name_at ps i) keyword && clashes_for_users ps i (new_entry (name_at ps i) name).symbol then Err fault.Clash else made_symbol ps i name)
+    (if bytes_eq (name_at ps i) keyword_package && clashes_for_users ps i (new_entry (name_at ps i) name).symbol then Err fault.Clash else made_symbol ps i name)
 
 -- the symbol made external in the package at a place, and present there (HyperSpec, `export` and `import`)
 abbrev pub export_at : List Package → ℕ → Symbol → Changed

@@ -1,10 +1,10 @@
 -- The packages of a fresh image.
 use Rattle.std.specs.Prelude.{◌≡◌, refl, ℕ, true, List, [], ◌∷◌, map, fold, codes}
+use Rattle.lisp_data.specs.Symbols.{common_lisp, keyword_package}
 use Rattle.lisp_packages.specs.declared.names.TheConstants as constant
 use Rattle.lisp_packages.specs.declared.entry.Entry.{Entry}
 use Rattle.lisp_packages.specs.declared.lisp_package.Package.{Package}
 use Rattle.lisp_packages.specs.Entries.{put_entry}
-use Rattle.lisp_packages.specs.Naming.{common_lisp, keyword}
 
 -- the external symbol of this name of COMMON-LISP
 abbrev pub standard_entry : List ℕ → Entry
@@ -19,7 +19,7 @@ abbrev pub fresh_packages : List (List ℕ) → List Package
 fresh_packages names =
     (record { name = common_lisp; nicknames = codes "CL" ∷ []; uses = []; own = standard_own names })
     ∷ (record { name = codes "COMMON-LISP-USER"; nicknames = codes "CL-USER" ∷ []; uses = 0 ∷ []; own = [] })
-    ∷ (record { name = keyword; nicknames = []; uses = []; own = [] })
+    ∷ (record { name = keyword_package; nicknames = []; uses = []; own = [] })
     ∷ []
 
 -- the packages of a fresh image

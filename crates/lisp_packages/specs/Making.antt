@@ -6,12 +6,13 @@ use Rattle.std.specs.List.{list_any}
 use Rattle.std.specs.Option.{option_map_or}
 use Rattle.std.specs.Str.{bytes_eq}
 use Rattle.lisp_data.specs.declared.symbol.Symbol.{Symbol}
+use Rattle.lisp_data.specs.Symbols.{common_lisp}
 use Rattle.lisp_packages.specs.declared.fault.NameFault.{NameFault}
 use Rattle.lisp_packages.specs.declared.fault.NameFault.TheVariants as fault
 use Rattle.lisp_packages.specs.declared.lisp_package.Package.{Package}
 use Rattle.lisp_packages.specs.Changes.{Changed, entry_clashes}
 use Rattle.lisp_packages.specs.Entries.{entry_of, added, with_external}
-use Rattle.lisp_packages.specs.Naming.{common_lisp, in_named, new_entry}
+use Rattle.lisp_packages.specs.Naming.{in_named, new_entry}
 use Rattle.lisp_packages.specs.Packages.{place_of, name_at, uses_at, own_at, accessible, clashes_for_users, with_own, with_uses}
 
 -- a package of this name that has nothing yet

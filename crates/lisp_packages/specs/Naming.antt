@@ -3,7 +3,7 @@ use Rattle.std.specs.Prelude.{◌≡◌, ℕ, ◌==◌, Bool, List, [], ◌∷�
 use Rattle.std.specs.List.{list_any, before_first, after_first}
 use Rattle.std.specs.Option.{option_map_or}
 use Rattle.std.specs.Str.{bytes_eq}
-use Rattle.lisp_data.specs.Symbols.{value_of_symbol}
+use Rattle.lisp_data.specs.Symbols.{common_lisp, keyword_package, value_of_symbol}
 use Rattle.lisp_data.specs.declared.symbol.Symbol.{Symbol}
 use Rattle.lisp_data.specs.declared.sexp.Sexp.{Sexp}
 use Rattle.lisp_data.specs.declared.sexp.Sexp.TheOpen.{Sexp-F}
@@ -17,16 +17,9 @@ use Rattle.lisp_packages.specs.declared.lisp_package.Package.{Package}
 use Rattle.lisp_packages.specs.Entries.{entry_of, added}
 use Rattle.lisp_packages.specs.Packages.{place_of, name_at, own_at, external_at, accessible, with_own}
 
--- the names of the two packages with rules of their own
-abbrev pub common_lisp : List ℕ
-common_lisp = codes "COMMON-LISP"
-
-abbrev pub keyword : List ℕ
-keyword = codes "KEYWORD"
-
 -- the entry of a symbol that is new in the package of this full name; a keyword is external (HyperSpec 11.1.2.3)
 abbrev pub new_entry : List ℕ → List ℕ → Entry
-new_entry home name = record { symbol = record { home = home; name = name }; external = bytes_eq home keyword }
+new_entry home name = record { symbol = record { home = home; name = name }; external = bytes_eq home keyword_package }
 
 -- the packages with a new symbol of this name in the one at a place
 abbrev pub with_new : List Package → ℕ → List ℕ → List Package
@@ -70,7 +63,7 @@ qualified ps i (c ∷ name) = if is_colon c then interned ps i name else externa
 
 -- a token with a colon (HyperSpec 2.3.5): nothing before it stands for KEYWORD
 abbrev pub prefixed : List Package → List ℕ → List ℕ → Named
-prefixed ps [] rest = in_named ps keyword (λ i. keyword_named ps i rest)
+prefixed ps [] rest = in_named ps keyword_package (λ i. keyword_named ps i rest)
 prefixed ps (c ∷ prefix) rest = in_named ps (c ∷ prefix) (λ i. qualified ps i rest)
 
 -- the symbol that a token names where the package at this place is current

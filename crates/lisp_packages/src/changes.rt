@@ -6,9 +6,9 @@ ghost use Rattle.lisp_packages.specs.Changes.{intern_at, export_at, use_at, entr
 ghost use Rattle.lisp_packages.specs.Naming.{in_named};
 ghost use Rattle.lisp_packages.specs.Packages.{place_of, own_at, clashes, clashes_for_user, clashes_for_users};
 
-use crate::naming::{COMMON_LISP, KEYWORD, new_entry};
+use crate::naming::new_entry;
 use crate::{Entry, NameFault, Packages};
-use lisp_data::{Name, Text};
+use lisp_data::{COMMON_LISP, KEYWORD, Name, Text};
 
 impl Packages {
     /// Whether the package at a place has another symbol of this one's name.

@@ -2,9 +2,8 @@ ghost use Rattle.std.specs.Prelude.{◌≡◌, ◌++◌, [], ◌∷◌, map, IfO
 ghost use Rattle.lisp_packages.specs.Fresh.{standard_entry, standard_own, standard_packages};
 
 use crate::names::STANDARD_NAMES;
-use crate::naming::{COMMON_LISP, KEYWORD};
 use crate::{Entry, Own, Package, Packages};
-use lisp_data::{Name, NoMemory, Rows, Text};
+use lisp_data::{COMMON_LISP, KEYWORD, Name, NoMemory, Rows, Text};
 use std::alloc::Global;
 
 /// The external symbol of this name of COMMON-LISP.

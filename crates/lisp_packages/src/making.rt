@@ -5,9 +5,9 @@ ghost use Rattle.lisp_packages.specs.Changes.{KeepsOthers};
 ghost use Rattle.lisp_packages.specs.Making.{new_package, place_in, places_named, with_use, with_used, symbol_to_export, present_at, all_present, uses_clash, export_clashes, exported, extended, defined, cut, IsUndone};
 ghost use Rattle.lisp_packages.specs.Packages.{place_of, uses_at, own_at};
 
-use crate::naming::{COMMON_LISP, new_entry};
+use crate::naming::new_entry;
 use crate::{Entry, NameFault, Own, Package, Packages};
-use lisp_data::{Name, NoMemory, Rows, Text};
+use lisp_data::{COMMON_LISP, Name, NoMemory, Rows, Text};
 use std::alloc::Global;
 
 /// A package of this name that has nothing yet.

@@ -1,20 +1,17 @@
 ghost use Rattle.std.specs.Prelude.{◌≡◌, ◌<◌, ◌++◌, [], ◌∷◌, Option, None, Some, Ok, true, false, length, slice_get, option_map, IfOk, IfErr, OnOk, OnErr};
 ghost use Rattle.std.specs.Str.{bytes_eq};
+ghost use Rattle.lisp_data.specs.Symbols.{common_lisp, keyword_package};
 ghost use Rattle.lisp_packages.specs.Causes.{IsCause, IsFault};
 ghost use Rattle.lisp_packages.specs.declared.fault.NameFault.TheVariants.{NoPackage};
 ghost use Rattle.lisp_packages.specs.Entries.{entry_of};
 ghost use Rattle.lisp_packages.specs.Made.{has_made, with_made, with_made_at, undone};
-ghost use Rattle.lisp_packages.specs.Naming.{Gives, common_lisp, keyword, new_entry, made_symbol, interned, keyword_named, external_named, in_named, qualified, prefixed, named, valued};
+ghost use Rattle.lisp_packages.specs.Naming.{Gives, new_entry, made_symbol, interned, keyword_named, external_named, in_named, qualified, prefixed, named, valued};
 ghost use Rattle.lisp_packages.specs.Packages.{place_of, name_at, uses_at, own_at, external_at, inherited, accessible};
 
 use crate::made::Made;
 use crate::{Entry, NameFault, Packages};
-use lisp_data::{Name, NoMemory, Pile, Rows, Sexp, Symbol, Text, Value};
+use lisp_data::{COMMON_LISP, KEYWORD, Name, NoMemory, Pile, Rows, Sexp, Symbol, Text, Value};
 use std::alloc::Global;
-
-pub(crate) const COMMON_LISP: &str = "COMMON-LISP";
-
-pub(crate) const KEYWORD: &str = "KEYWORD";
 
 /// The entry of a symbol that is new in the package of this full name.
 pub(crate) fn new_entry(alloc: Global, home: &Text, name: &str) -> Result<Entry, NoMemory>

@@ -14,9 +14,10 @@ use Rattle.std.proofs.lemmas.Str.Ascii.{IsAscii-nil, IsAscii-cons}
 use Rattle.std.proofs.lemmas.Str.Parse.{digit_at}
 use Rattle.lisp_data.specs.declared.sexp.Sexp.{Sexp}
 use Rattle.lisp_data.specs.declared.sexp.Sexp.TheVariants as form
+use Rattle.lisp_data.specs.Sexp.{nil}
 use Rattle.sexp_printer.specs.Plain.{IsPlain, ArePlain, IsPlainToken}
 use Rattle.sexp_reader.specs.Tokens.{ends_token, spoils, uppercase, IsInteger, IsNumberLike, HasGoodColons, IsBad}
-use Rattle.rpc_messages.specs.Outgoing.{nil, number, message, restart_form, frame_form, form_of, HaveSmallNumbers, HasSmallNumbers}
+use Rattle.rpc_messages.specs.Outgoing.{number, message, restart_form, frame_form, form_of, HaveSmallNumbers, HasSmallNumbers}
 use Rattle.rpc_messages.specs.Plain.{ReturnsPlain, HasTexts, HasText, IsSound}
 use Rattle.rpc_messages.specs.declared.to_emacs.FrameLine.{FrameLine}
 use Rattle.rpc_messages.specs.declared.to_emacs.RestartLine.{RestartLine}

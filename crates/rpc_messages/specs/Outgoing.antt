@@ -2,15 +2,13 @@
 use Rattle.std.specs.Prelude.{ℕ, pos, ◌<◌, ◌^◌, Bool, true, false, List, [], ◌∷◌, map, codes, All}
 use Rattle.lisp_data.specs.declared.sexp.Sexp.{Sexp}
 use Rattle.lisp_data.specs.declared.sexp.Sexp.TheVariants as form
+use Rattle.lisp_data.specs.Sexp.{nil}
 use Rattle.rpc_messages.specs.declared.to_emacs.FrameLine.{FrameLine}
 use Rattle.rpc_messages.specs.declared.to_emacs.RestartLine.{RestartLine}
 use Rattle.rpc_messages.specs.declared.to_emacs.Returned.{Returned}
 use Rattle.rpc_messages.specs.declared.to_emacs.Returned.TheVariants as returned
 use Rattle.rpc_messages.specs.declared.to_emacs.ToEmacs.{ToEmacs}
 use Rattle.rpc_messages.specs.declared.to_emacs.ToEmacs.TheVariants.{Return, InvalidRpc, ReaderError, WriteString, ReadString, ReadAborted, YesNo, NewPackage, Debug, DebugActivate, DebugReturn, DebugCondition}
-
-abbrev pub nil : Sexp
-nil = form.List []
 
 abbrev pub number : ℕ → Sexp
 number n = form.Int (pos n)

@@ -1,5 +1,6 @@
 ghost use mir.Syntax.{w64};
 ghost use Rattle.std.specs.Prelude.{◌≡◌, ◌^◌, ◌<◌, [], ◌∷◌, All, codes, FitsSigned, IfOk, OnOk, map};
+ghost use Rattle.lisp_data.specs.Sexp.{nil};
 ghost use Rattle.lisp_data.specs.declared.sexp.Sexp.TheVariants as form;
 ghost use Rattle.rpc_messages.specs.Outgoing as outgoing;
 ghost use Rattle.rpc_messages.specs.Outgoing.{form_of, HasSmallNumbers};
@@ -285,7 +286,7 @@ fn yes_no(alloc: Global, thread: u64, tag: u64, text: &str) -> Result<Sexp, NoMe
 fn of_level(alloc: Global, head: &str, thread: u64, level: u64) -> Result<Sexp, NoMemory>
     requires thread { thread < 2 ^ 63 }
     requires level { level < 2 ^ 63 }
-    ensures { IfOk result (λ x. x ≡ outgoing.message head.now (outgoing.number thread ∷ outgoing.number level ∷ outgoing.nil ∷ [])) }
+    ensures { IfOk result (λ x. x ≡ outgoing.message head.now (outgoing.number thread ∷ outgoing.number level ∷ nil ∷ [])) }
 {
     of_thread_and(alloc, head, thread, level, Sexp::nil(alloc))
 }

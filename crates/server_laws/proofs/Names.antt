@@ -9,11 +9,12 @@ use Rattle.lisp_data.specs.declared.sexp.Sexp.TheOpen.{Sexp-F}
 use Rattle.lisp_data.specs.declared.sexp.Sexp.TheFolds.{fold-roll-Sexp, ind-Sexp}
 use Rattle.lisp_data.specs.declared.sexp.Sexp.TheViews.{roll-Sexp}
 use Rattle.lisp_data.specs.declared.symbol.Symbol.{Symbol}
+use Rattle.lisp_data.specs.Symbols.{common_lisp, keyword_package}
 use Rattle.lisp_packages.specs.declared.entry.Entry.{Entry}
 use Rattle.lisp_packages.specs.declared.fault.NameFault.{NameFault}
 use Rattle.lisp_packages.specs.declared.lisp_package.Package.{Package}
 use Rattle.lisp_packages.specs.Entries.{entry_of}
-use Rattle.lisp_packages.specs.Naming.{AllValued, Named, Valued, common_lisp, external_named, in_named, in_turn, interned, is_colon, keyword, keyword_named, list_valued, made_symbol, named, prefixed, qualified, symbol_valued, value_before, value_step, value_then, valued}
+use Rattle.lisp_packages.specs.Naming.{AllValued, Named, Valued, external_named, in_named, in_turn, interned, is_colon, keyword_named, list_valued, made_symbol, named, prefixed, qualified, symbol_valued, value_before, value_step, value_then, valued}
 use Rattle.lisp_packages.specs.Packages.{accessible, external_at, name_at, own_at, place_of, with_own}
 use Rattle.server_laws.specs.Small.{are_short}
 use Rattle.server_laws.proofs.ShortNames.{are_short-own}
@@ -63,7 +64,7 @@ qualified_short ps i [] h = external_short ps i [] h
 qualified_short ps i (c ∷ name) h = qualified_if (is_colon c) ps i (c ∷ name) name h
 
 prefixed_short : (ps : List Package) (prefix rest : List ℕ) → AreShort ps → IsShortAnswer (prefixed ps prefix rest)
-prefixed_short ps [] rest h = in_named_short ps keyword (λ i. keyword_named ps i rest) (λ i. keyword_short ps i rest h)
+prefixed_short ps [] rest h = in_named_short ps keyword_package (λ i. keyword_named ps i rest) (λ i. keyword_short ps i rest h)
 prefixed_short ps (c ∷ prefix) rest h = in_named_short ps (c ∷ prefix) (λ i. qualified ps i rest) (λ i. qualified_short ps i rest h)
 
 named_if : (b : Bool) (ps : List Package) (current : ℕ) (token : List ℕ) → AreShort ps

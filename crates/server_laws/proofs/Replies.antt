@@ -14,6 +14,7 @@ use Rattle.lisp_data.specs.declared.value.Value.TheVariants as value
 use Rattle.lisp_data.specs.declared.value.Value.TheVariants.{rolls-Str}
 use Rattle.lisp_data.specs.declared.value.Value.TheViews.{out-Value}
 use Rattle.lisp_data.specs.declared.value.Condition.{Condition}
+use Rattle.lisp_data.specs.Sexp.{nil}
 use Rattle.lisp_errors.specs.Limits.{is_too_large, max_depth, max_weight, value_too_large}
 use Rattle.lisp_packages.specs.Packages.{name_at, place_of}
 use Rattle.lisp_packages.specs.declared.lisp_package.Package.{Package}
@@ -27,7 +28,7 @@ use Rattle.step_model.specs.CurrentPackage.{global_package, named_by, package_of
 use Rattle.step_model.specs.Image.{ImageState, global, with_global}
 use Rattle.step_model.specs.Rules.{Writing, Output, NewPackage}
 use Rattle.swank_rpc.specs.Calls.{first_text, is_too_heavy, parts}
-use Rattle.swank_rpc.specs.Commands.{Given, Replies, RepliesIn, Refuses, Evaluates, called, called_by, called_in, evaluated, full_name, nil, row, set_to, with_text}
+use Rattle.swank_rpc.specs.Commands.{Given, Replies, RepliesIn, Refuses, Evaluates, called, called_by, called_in, evaluated, full_name, row, set_to, with_text}
 use Rattle.swank_rpc.specs.Finishes.{Ended, ended, ended_by, function_called, new_package, replies_text, replies_value, writes_text, writes_value}
 use Rattle.swank_rpc.specs.Finishes as end
 use Rattle.swank_rpc.specs.Info.{connection_info, max_items, package_names, prompt, repl_package}

@@ -8,17 +8,18 @@ use Rattle.lisp_data.specs.declared.type_id.TypeId.{TypeId}
 use Rattle.lisp_data.specs.declared.value.Value.{Value}
 use Rattle.lisp_data.specs.declared.value.Value.TheOpen.{Condition-F, Value-F}
 use Rattle.lisp_data.specs.declared.value.Value.TheFolds.{fold-Value}
+use Rattle.lisp_data.specs.Symbols.{common_lisp, keyword_package}
 use Rattle.lisp_data.specs.TypeNames.{name_of}
 use Rattle.sexp_printer.specs.Printed.{quoted, in_parentheses}
 
 -- whether a symbol prints by its name alone: one whose home is COMMON-LISP or the current package
 abbrev pub is_bare : List ℕ → List ℕ → Bool
-is_bare home current = bytes_eq home (codes "COMMON-LISP") || bytes_eq home current
+is_bare home current = bytes_eq home common_lisp || bytes_eq home current
 
 -- a keyword: its name after a colon; a symbol that prints by its name alone; any other: its home, two colons and its name
 abbrev pub symbol_text : List ℕ → Symbol → List ℕ
 symbol_text current symbol =
-    if bytes_eq symbol.home (codes "KEYWORD") then codes ":" ++ symbol.name
+    if bytes_eq symbol.home keyword_package then codes ":" ++ symbol.name
     else if is_bare symbol.home current then symbol.name
     else symbol.home ++ codes "::" ++ symbol.name
 

@@ -2,14 +2,14 @@ ghost use Rattle.std.specs.Prelude.{◌≡◌, ◌++◌, IfOk, OnOk};
 ghost use Rattle.sexp_printer.specs.UserText.{is_bare, symbol_text, string_text, condition_text, user_text};
 
 use crate::piece::{write_integer, write_quoted};
-use lisp_data::{Condition, NoMemory, Symbol, Text, Value};
+use lisp_data::{COMMON_LISP, Condition, NoMemory, Symbol, Text, Value};
 use std::alloc::Global;
 
 /// Whether a symbol with this home prints by its name alone.
 pub fn is_bare(home: &str, current: &str) -> bool
     ensures { result ≡ is_bare home.now current.now }
 {
-    home == "COMMON-LISP" || home == current
+    home == COMMON_LISP || home == current
 }
 
 fn write_symbol(out: &mut Text, current: &str, symbol: &Symbol) -> Result<(), NoMemory>

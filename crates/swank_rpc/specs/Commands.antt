@@ -6,6 +6,7 @@ use Rattle.lisp_data.specs.declared.sexp.Sexp.TheVariants as form
 use Rattle.lisp_data.specs.declared.value.Value.{Value}
 use Rattle.lisp_data.specs.declared.value.Value.TheVariants as value
 use Rattle.lisp_data.specs.declared.value.Condition.{Condition}
+use Rattle.lisp_data.specs.Sexp.{nil}
 use Rattle.lisp_errors.specs.Causes.{bad_arguments, package_not_found, reader_fault}
 use Rattle.lisp_errors.specs.Limits.{value_too_large}
 use Rattle.lisp_packages.specs.Packages.{name_at, place_of}
@@ -34,9 +35,6 @@ pub data Given : Type 0 where
   Refuses : Condition → Given
   -- these forms are evaluated, and what is kept goes into the reply
   Evaluates : List Placed → (kept : Sexp) → Given
-
-abbrev pub nil : Sexp
-nil = form.List []
 
 -- ---- the functions that take a text
 

@@ -4,6 +4,7 @@ use Rattle.lisp_data.specs.declared.sexp.Sexp.{Sexp}
 use Rattle.lisp_data.specs.declared.sexp.Sexp.TheVariants as form
 use Rattle.lisp_data.specs.declared.value.Value.{Value}
 use Rattle.lisp_data.specs.declared.value.Condition.{Condition}
+use Rattle.lisp_data.specs.Sexp.{nil}
 use Rattle.lisp_errors.specs.Limits.{value_too_large}
 use Rattle.rpc_messages.specs.declared.to_emacs.ToEmacs.{ToEmacs}
 use Rattle.rpc_messages.specs.declared.to_emacs.ToEmacs.TheVariants as message
@@ -17,7 +18,6 @@ use Rattle.swank_rpc.specs.declared.answer.Answer.TheVariants as answer
 use Rattle.swank_rpc.specs.declared.function.SwankFunction.{SwankFunction}
 use Rattle.swank_rpc.specs.declared.function.SwankFunction.TheVariants as function
 use Rattle.swank_rpc.specs.Calls.{parts}
-use Rattle.swank_rpc.specs.Commands.{nil}
 use Rattle.swank_rpc.specs.Info.{prompt}
 use Rattle.swank_rpc.specs.Kept.{began_in, has_form}
 use Rattle.swank_rpc.specs.Names.{function_of}

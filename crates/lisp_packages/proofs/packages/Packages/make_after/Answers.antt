@@ -1,8 +1,8 @@
 use Rattle.std.proofs.Common.{◌≡◌, ◌∙◌, ap, sym, Ok, Some, true, false, rules}
 use Rattle.std.specs.Str.{bytes_eq}
+use Rattle.lisp_data.specs.Symbols.{common_lisp}
 use Rattle.lisp_packages.specs.Causes.{refusal_of}
 use Rattle.lisp_packages.specs.Made.{with_made}
-use Rattle.lisp_packages.specs.Naming.{common_lisp}
 use Rattle.lisp_packages.specs.declared.fault.NameFault.TheVariants.{NotExternal}
 use Rattle.lisp_packages.proofs.MadeLemmas.{has_made-absent, made_symbol-refused, made_symbol-made}
 use Rattle.lisp_packages.proofs.packages.Packages.make_after.Goals as goal
