@@ -10,7 +10,7 @@ ghost use Rattle.lisp_syntax.specs.Table.{are_bare};
 use crate::fit::{Fit, Misfit, body};
 use crate::items::{at_most_one, report, variables};
 use crate::parts::{condition_type, is_symbol, list, restart_name};
-use lisp_data::Value;
+use lisp_data::{Boxed, Value};
 use std::alloc::Global;
 use syntax_trees::{Bare, Row};
 
@@ -48,7 +48,7 @@ pub fn restart_clause(alloc: Global, value: &Value) -> Result<Fit, Misfit>
         return Err(Misfit::NoRow);
     };
     let name = restart_name(name)?;
-    let parameters = variables(alloc, parameters)?;
+    let parameters = Boxed::new(alloc, variables(alloc, parameters)?)?;
     let (report, forms) = report(alloc, forms)?;
     Ok(body(
         alloc,

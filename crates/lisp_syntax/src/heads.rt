@@ -11,7 +11,7 @@ use crate::operator::Operator;
 use crate::values::{
     at_most_one, designator, parameters, symbol, type_form, variable, variables, with_option,
 };
-use lisp_data::{Name, NoMemory, Pile, Rows, Text, TypeId, Value};
+use lisp_data::{Boxed, Name, NoMemory, Pile, Rows, Text, TypeId, Value};
 use std::alloc::Global;
 use syntax_trees::{Binding, Designator, Holder, Init, Named, Parameters, Row};
 
@@ -84,7 +84,7 @@ fn restart_head(
     alloc: Global,
     name: &Name,
     parameters: &[Name],
-    report: &Option<Text>,
+    report: &Option<Boxed<Text>>,
 ) -> Result<Rows<Value>, NoMemory>
     ensures { IfOk result (λ items. items ≡ value.Sym name.now ∷ variables_form parameters.now ∷ report_forms report.now) }
 {
@@ -93,7 +93,7 @@ fn restart_head(
     items.push(variables(alloc, parameters)?)?;
     if let Some(text) = report {
         items.push(Value::Sym(Name::keyword(alloc, "REPORT")?))?;
-        items.push(Value::Str(text.copy(alloc)?))?;
+        items.push(Value::Str(text.get().copy(alloc)?))?;
     }
     Ok(items)
 }
@@ -270,25 +270,27 @@ pub fn head(alloc: Global, row: &Row, forms: Pile<Value>) -> Result<Begun, NoMem
             name,
             control,
             arguments,
-        } => return control_head(alloc, name, control, *arguments, forms),
+        } => return control_head(alloc, name, control.get(), *arguments, forms),
         Row::Literal(_) | Row::Variable(_) | Row::CondClause => Rows::new(alloc),
         Row::Quote(value) => headed(alloc, Operator::Quote, value.copy(alloc)?)?,
         Row::Function(name) => headed(alloc, Operator::Function, symbol(alloc, name)?)?,
         Row::Bare(bare) => begun(alloc, Operator::Bare(*bare))?,
         Row::Named(named, name) => named_head(alloc, *named, name)?,
-        Row::Defun { name, parameters } => defun_head(alloc, name, parameters)?,
-        Row::InPackage(name) => headed(alloc, Operator::InPackage, designator(alloc, name)?)?,
+        Row::Defun { name, parameters } => defun_head(alloc, name, parameters.get())?,
+        Row::InPackage(name) => {
+            headed(alloc, Operator::InPackage, designator(alloc, name.get())?)?
+        },
         Row::Defpackage {
             name,
             uses,
             exports,
-        } => defpackage_head(alloc, name, uses, exports)?,
+        } => defpackage_head(alloc, name.get(), uses.get(), exports.get())?,
         Row::HandlerClause { kind, variable } => handler_head(alloc, *kind, variable)?,
         Row::RestartClause {
             name,
             parameters,
             report,
-        } => restart_head(alloc, name, parameters.as_slice(), report)?,
+        } => restart_head(alloc, name, parameters.get().as_slice(), report)?,
     };
     Ok((items, forms))
 }

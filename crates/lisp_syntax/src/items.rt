@@ -7,7 +7,7 @@ ghost use Rattle.lisp_syntax.specs.Table.{assignments_of, binding_of, each_with,
 
 use crate::fit::Misfit;
 use crate::parts::{condition_type, designator, is_key, list, readable, string, variable};
-use lisp_data::{Name, NoMemory, Rows, Text, TypeId, Value};
+use lisp_data::{Boxed, Name, NoMemory, Rows, Text, TypeId, Value};
 use std::alloc::Global;
 use syntax_trees::{Binding, Designator, Init};
 
@@ -136,12 +136,12 @@ pub fn at_most_one(alloc: Global, value: &Value) -> Result<Option<Name>, Misfit>
 
 /// `[:report "TEXT"] body`: the text, if the forms begin with it, and the body.
 #[tactic(auto, unfolding(crate::specs::Parts::report_of))]
-pub fn report(alloc: Global, forms: &[Value]) -> Result<(Option<Text>, &[Value]), NoMemory>
+pub fn report(alloc: Global, forms: &[Value]) -> Result<(Option<Boxed<Text>>, &[Value]), NoMemory>
     ensures { IfOk result (λ r. (r.0, r.1.now) ≡ report_of forms.now) }
 {
     match forms {
         [key, Value::Str(text), body @ ..] if is_key("REPORT", key) => {
-            Ok((Some(text.copy(alloc)?), body))
+            Ok((Some(Boxed::new(alloc, text.copy(alloc)?)?), body))
         }
         _ => Ok((None, forms)),
     }

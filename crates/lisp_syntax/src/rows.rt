@@ -14,7 +14,7 @@ use crate::parts::{designator, list, string, symbol, variable};
 use crate::shape::{is_count, may_follow, may_hold, split};
 use crate::sort::Sort;
 use crate::symbols::is_readable;
-use lisp_data::{Name, Rows, Value};
+use lisp_data::{Boxed, Name, Rows, Value};
 use std::alloc::Global;
 use syntax_trees::{Bare, Holder, Named, Row};
 
@@ -149,7 +149,7 @@ fn defun_row(alloc: Global, parts: &[Value]) -> Result<Fit, Misfit>
         return Err(Misfit::NoRow);
     };
     let name = variable(name)?;
-    let parameters = parameters(alloc, list(items)?)?;
+    let parameters = Boxed::new(alloc, parameters(alloc, list(items)?)?)?;
     Ok(body(alloc, Row::Defun { name, parameters }, forms))
 }
 
@@ -177,7 +177,7 @@ fn with_simple_restart_row(alloc: Global, parts: &[Value]) -> Result<Fit, Misfit
     };
     let row = Row::WithSimpleRestart {
         name: symbol(alloc, name)?,
-        control: string(alloc, text)?,
+        control: Boxed::new(alloc, string(alloc, text)?)?,
         arguments: arguments.len(),
     };
     let lead = forms(alloc, arguments)?;
@@ -191,7 +191,8 @@ fn in_package_row(alloc: Global, parts: &[Value]) -> Result<Fit, Misfit>
     let [name] = parts else {
         return Err(Misfit::NoRow);
     };
-    Ok(body(alloc, Row::InPackage(designator(alloc, name)?), &[]))
+    let name = Boxed::new(alloc, designator(alloc, name)?)?;
+    Ok(body(alloc, Row::InPackage(name), &[]))
 }
 
 /// `(defpackage P [(:use P..)] [(:export P..)])`
@@ -201,12 +202,12 @@ fn defpackage_row(alloc: Global, parts: &[Value]) -> Result<Fit, Misfit>
     let [name, values @ ..] = parts else {
         return Err(Misfit::NoRow);
     };
-    let name = designator(alloc, name)?;
+    let name = Boxed::new(alloc, designator(alloc, name)?)?;
     let (uses, exports) = options(alloc, values)?;
     let row = Row::Defpackage {
         name,
-        uses,
-        exports,
+        uses: Boxed::new(alloc, uses)?,
+        exports: Boxed::new(alloc, exports)?,
     };
     Ok(body(alloc, row, &[]))
 }

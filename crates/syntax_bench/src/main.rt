@@ -2,7 +2,7 @@
 //! tree. `bench/syntax` times it.
 #![tactic(auto)]
 
-use lisp_data::{NoMemory, Text, Value};
+use lisp_data::{NoMemory, Sexp, Text, Value};
 use lisp_packages::Packages;
 use lisp_syntax::{ParseFault, parse_form};
 use sexp_reader::read_form;
@@ -10,17 +10,17 @@ use std::alloc::Global;
 use std::{env, io};
 use syntax_trees::Ast;
 
-/// The form of the text as CL-USER reads it, NIL where it spells none.
-fn form_of(alloc: Global, text: &str) -> Result<Value, NoMemory> {
+/// The form of the text, and as CL-USER reads it; NIL where the text spells none.
+fn forms_of(alloc: Global, text: &str) -> Result<(Sexp, Value), NoMemory> {
     let text = Text::of(alloc, text)?;
     let user = Text::of(alloc, "CL-USER")?;
     let mut packages = Packages::new(alloc)?;
     let Ok(form) = read_form(alloc, &text) else {
-        return Ok(Value::nil(alloc));
+        return Ok((Sexp::nil(alloc), Value::nil(alloc)));
     };
     match packages.value_of(&user, &form) {
-        Ok(value) => Ok(value),
-        Err(_) => Ok(Value::nil(alloc)),
+        Ok(value) => Ok((form, value)),
+        Err(_) => Ok((form, Value::nil(alloc))),
     }
 }
 
@@ -49,7 +49,8 @@ fn main(rt: HostRuntime) -> io::Result<()> {
         None => 1,
     };
     let text = io::read_to_string(alloc, rt.stdin().lock())?;
-    let Ok(form) = form_of(alloc, text.as_str()) else {
+    // What was read is kept, so that the trees take memory of their own.
+    let Ok((_read, form)) = forms_of(alloc, text.as_str()) else {
         return println!(rt; "no memory");
     };
     match parse(alloc, &form, times) {

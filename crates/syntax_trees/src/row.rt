@@ -1,4 +1,4 @@
-use lisp_data::{Name, Rows, Text, TypeId, Value};
+use lisp_data::{Boxed, Name, Rows, Text, TypeId, Value};
 
 /// The operators whose forms have no other parts than subforms. The clauses of `cond`, `handler-case` and `restart-case` are nodes of their
 /// own, and count as subforms here.
@@ -58,12 +58,21 @@ pub struct Binding {
 }
 
 /// The parameters of a function (HyperSpec 3.4.1, without keyword and auxiliary parameters).
-#[derive(Drop)]
 pub struct Parameters {
     pub required: Rows<Name>,
     /// None where `&optional` isn't written.
     pub optional: Option<Rows<Name>>,
     pub rest: Option<Name>,
+}
+
+impl Drop for Parameters {
+    fn drop(self) {
+        let Parameters {
+            required: _,
+            optional: _,
+            rest: _,
+        } = self;
+    }
 }
 
 /// What names a package or a symbol: a string, or a symbol, whose name counts (HyperSpec 1.4.1.5).
@@ -74,7 +83,7 @@ pub enum Designator {
 }
 
 /// A row of the syntax, with the parts of a form that are no forms. The subforms stand beside it in the order in which they are written.
-#[derive(Drop)]
+/// What is large and rare stands in a box, so that a row takes no more room than a value and a word.
 pub enum Row {
     Literal(Value),
     Quote(Value),
@@ -93,23 +102,23 @@ pub enum Row {
     Setq(Rows<Name>),
     Defun {
         name: Name,
-        parameters: Parameters,
+        parameters: Boxed<Parameters>,
     },
     /// The subforms are one for each type, which gives the handler's function, then the body.
     HandlerBind(Rows<TypeId>),
     /// The subforms are the arguments of the control text, as many as said, then the body.
     WithSimpleRestart {
         name: Name,
-        control: Text,
+        control: Boxed<Text>,
         arguments: usize,
     },
-    InPackage(Designator),
+    InPackage(Boxed<Designator>),
     Defpackage {
-        name: Designator,
+        name: Boxed<Designator>,
         /// None where `:use` isn't written.
-        uses: Option<Rows<Designator>>,
+        uses: Boxed<Option<Rows<Designator>>>,
         /// None where `:export` isn't written.
-        exports: Option<Rows<Designator>>,
+        exports: Boxed<Option<Rows<Designator>>>,
     },
     /// A clause of `cond`: a test, then a body.
     CondClause,
@@ -121,7 +130,43 @@ pub enum Row {
     /// A clause of `restart-case`, with the text of `:report`, if one is written. The subforms are its body.
     RestartClause {
         name: Name,
-        parameters: Rows<Name>,
-        report: Option<Text>,
+        parameters: Boxed<Rows<Name>>,
+        report: Option<Boxed<Text>>,
     },
+}
+
+impl Drop for Row {
+    fn drop(self) {
+        match self {
+            Row::Literal(_) | Row::Quote(_) => {}
+            Row::Variable(_) | Row::Function(_) | Row::Named(_, _) | Row::Held(_, _) => {}
+            Row::Bare(_) | Row::HandlerBind(_) | Row::CondClause => {}
+            Row::Let(_) | Row::LetStar(_) => {}
+            Row::Setq(_) => {}
+            Row::Defun {
+                name: _,
+                parameters: _,
+            } => {}
+            Row::WithSimpleRestart {
+                name: _,
+                control: _,
+                arguments: _,
+            } => {}
+            Row::InPackage(_) => {}
+            Row::Defpackage {
+                name: _,
+                uses: _,
+                exports: _,
+            } => {}
+            Row::HandlerClause {
+                kind: _,
+                variable: _,
+            } => {}
+            Row::RestartClause {
+                name: _,
+                parameters: _,
+                report: _,
+            } => {}
+        }
+    }
 }
