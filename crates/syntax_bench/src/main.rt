@@ -1,5 +1,5 @@
-//! Parses the form of standard input, as CL-USER reads it, as often as its argument says, once where it has none, and counts the nodes of the
-//! tree. `bench/syntax` times it.
+//! Parses the form of standard input, as CL-USER reads it, and counts the nodes of its tree; with a number as argument it parses the form so
+//! many times, and tells how long that took. `bench/syntax` runs it.
 #![tactic(auto)]
 
 use lisp_data::{NoMemory, Sexp, Text, Value};
@@ -7,6 +7,8 @@ use lisp_packages::Packages;
 use lisp_syntax::{ParseFault, parse_form};
 use sexp_reader::read_form;
 use std::alloc::Global;
+use std::rt::Clock;
+use std::time::{Duration, Instant};
 use std::{env, io};
 use syntax_trees::Ast;
 
@@ -24,13 +26,16 @@ fn forms_of(alloc: Global, text: &str) -> Result<(Sexp, Value), NoMemory> {
     }
 }
 
-fn parse(alloc: Global, form: &Value, times: usize) -> Result<Option<Ast>, ParseFault> {
-    let mut last = None;
-    for _ in 0..times {
-        last = None;
-        last = Some(parse_form(alloc, form)?);
+/// How long so many turns of parsing take; the drop of the trees does not count.
+fn timed<R: Clock>(rt: &R, alloc: Global, form: &Value, turns: u64) -> io::Result<Duration> {
+    let mut took = Duration::ZERO;
+    for _ in 0..turns {
+        let start = Instant::now(rt)?;
+        let tree = parse_form(alloc, form);
+        took = took.saturating_add(start.elapsed(rt)?);
+        let _dropped = tree;
     }
-    Ok(last)
+    Ok(took)
 }
 
 /// How many nodes the tree has.
@@ -44,18 +49,21 @@ fn count(tree: &Ast) -> u64 {
 
 fn main(rt: HostRuntime) -> io::Result<()> {
     let alloc = rt.alloc();
-    let times = match env::args(&rt)?.nth(1) {
-        Some(word) => word.parse::<usize>().unwrap_or(1),
-        None => 1,
+    let turns = match env::args(&rt)?.nth(1) {
+        Some(word) => word.parse::<u64>().ok(),
+        None => None,
     };
     let text = io::read_to_string(alloc, rt.stdin().lock())?;
     // What was read is kept, so that the trees take memory of their own.
     let Ok((_read, form)) = forms_of(alloc, text.as_str()) else {
         return println!(rt; "no memory");
     };
-    match parse(alloc, &form, times) {
-        Ok(Some(tree)) => println!(rt; "{} nodes", count(&tree)),
-        Ok(None) => println!(rt; "0 nodes"),
+    if let Some(turns) = turns {
+        let took = timed(&rt, alloc, &form, turns)?;
+        return println!(rt; "{} nanoseconds", took.as_nanos());
+    }
+    match parse_form(alloc, &form) {
+        Ok(tree) => println!(rt; "{} nodes", count(&tree)),
         Err(ParseFault::Syntax(_)) => println!(rt; "bad"),
         Err(ParseFault::NoMemory) => println!(rt; "no memory"),
     }
