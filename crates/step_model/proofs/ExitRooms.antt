@@ -24,7 +24,7 @@ use Rattle.term_model.specs.GoingIn.{body}
 use Rattle.term_model.specs.Room.{layers, levels, limit}
 use Rattle.term_model.specs.Search.{layer_at}
 use Rattle.term_model.specs.Term.{Context}
-use Rattle.step_model.specs.Facts.{HasClauses, IsCall, IsRequest, TakesValue, TargetFits, bare, bares}
+use Rattle.step_model.specs.Facts.{HasClause, IsCall, IsRequest, TakesValue, TargetFits, bare, bares}
 use Rattle.step_model.specs.Now.{Now}
 use Rattle.step_model.specs.Perform.{after_leaving, brings, calls_again, exits, goes, lands, runs_action, runs_clause, runs_handler, runs_offer}
 use Rattle.step_model.specs.Rooms.{BrokenRoom, LayerRoom, LayersRoom, extra, is_giving, is_offering, number_if}
@@ -100,13 +100,13 @@ no_level_value (frame.Cleanup k kept) h = refl
 no_level_value (frame.Rex i id form) h = refl
 no_level_value (frame.Ask kind tag) h = refl
 
-no_level_clauses : (l : Frame) → HasClauses (Some l) → is_level l ≡ false
-no_level_clauses (frame.Sldb n condition again) h = absurd h
-no_level_clauses (frame.On p) h = refl
-no_level_clauses (frame.Protect k cleanup) h = refl
-no_level_clauses (frame.Cleanup k kept) h = refl
-no_level_clauses (frame.Rex i id form) h = refl
-no_level_clauses (frame.Ask kind tag) h = refl
+no_level_clauses : (i : ℕ) (l : Frame) → HasClause i (Some l) → is_level l ≡ false
+no_level_clauses i (frame.Sldb n condition again) h = absurd h
+no_level_clauses i (frame.On p) h = refl
+no_level_clauses i (frame.Protect k cleanup) h = refl
+no_level_clauses i (frame.Cleanup k kept) h = refl
+no_level_clauses i (frame.Rex at id form) h = refl
+no_level_clauses i (frame.Ask kind tag) h = refl
 
 no_level_call : (l : Frame) → IsCall (Some l) → is_level l ≡ false
 no_level_call (frame.Sldb n condition again) h = absurd h
@@ -137,7 +137,7 @@ arrives_room target (bring.Value v) l d o e is h g =
 arrives_room target (bring.Reply r) l d o e is h g =
     let at : target ≡ length d + 1 = omega (arith, h.0) in past_target target l d o at is (no_level_value l (subst TakesValue (layer_here target l d at) h.1)) g
 arrives_room target (bring.Clause i vs) l d o e is h g =
-    let at : target ≡ length d + 1 = omega (arith, h.0) in past_target target l d o at is (no_level_clauses l (subst HasClauses (layer_here target l d at) h.1)) g
+    let at : target ≡ length d + 1 = omega (arith, h.0) in past_target target l d o at is (no_level_clauses i l (subst (HasClause i) (layer_here target l d at) h.1)) g
 arrives_room target bring.Call l d o e is h g =
     let at : target ≡ length d + 1 = omega (arith, h.0) in past_target target l d o at is (no_level_call l (subst IsCall (layer_here target l d at) h.1)) g
 arrives_room target bring.Nothing l d o e is h g =
@@ -264,7 +264,7 @@ leads_room_first target zero b c e g = top target b c e g
     top : (target : ℕ) (b : Bring) (c : Context) → zero + (target - 1) ≡ length c → TargetFits target b (bares c) → layers (bares c) ≤ limit (levels (bares c)) + spare (layer_at target (bares c))
     top target (bring.Value v) c e g = absurd (subst TakesValue (beyond_room target c (omega (arith, g.0, length-bares c))) g.1)
     top target (bring.Reply r) c e g = absurd (subst TakesValue (beyond_room target c (omega (arith, g.0, length-bares c))) g.1)
-    top target (bring.Clause i vs) c e g = absurd (subst HasClauses (beyond_room target c (omega (arith, g.0, length-bares c))) g.1)
+    top target (bring.Clause i vs) c e g = absurd (subst (HasClause i) (beyond_room target c (omega (arith, g.0, length-bares c))) g.1)
     top target bring.Call c e g = absurd (subst IsCall (beyond_room target c (omega (arith, g.0, length-bares c))) g.1)
     top target bring.Nothing c e g =
         ⊎_elim

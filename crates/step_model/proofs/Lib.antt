@@ -4,6 +4,7 @@ pub mod BareLemmas
 pub mod FitLemmas
 pub mod TargetFits
 pub mod SearchFits
+pub mod ForceLemmas
 pub mod PerformFits
 pub mod FunctionFits
 pub mod FormFits
@@ -11,6 +12,8 @@ pub mod RowFits
 pub mod KeepsFacts
 pub mod KeepsOrder
 pub mod LocalLemmas
+pub mod ListedLemmas
+pub mod ShallowLemmas
 pub mod StaleLemmas
 pub mod MachineFunctionLemmas
 pub mod RoomLemmas

@@ -1,20 +1,11 @@
 -- A step that a thread makes by itself is the step.
-use Rattle.std.proofs.Common.{◌≡◌, ℕ, ℤ, pos, ◌-◌, Bool, true, false, ◌&&◌, List, [], ◌∷◌, Option, Some, None, refl, sym, ap, ◌∙◌, subst}
-use Rattle.std.specs.Prelude.{not, if◌then◌else◌, slice_get, is_some, option_map, option_and_then}
+use Rattle.std.proofs.Common.{◌≡◌, Bool, true, false, ◌&&◌, List, [], ◌∷◌, Option, Some, None, refl, sym, ap, ◌∙◌, subst}
+use Rattle.std.specs.Prelude.{not, is_some, option_map, option_and_then}
+use Rattle.std.specs.Option.{option_map_or}
 use Rattle.std.proofs.lemmas.Bool.{false≢true}
 use Rattle.lisp_data.specs.declared.symbol.Symbol.{Symbol}
 use Rattle.lisp_data.specs.declared.value.Value.{Value}
-use Rattle.lisp_data.specs.declared.value.Value.TheOpen.{Value-F}
-use Rattle.lisp_data.specs.declared.value.Value.TheViews.{out-Value}
-use Rattle.lisp_data.specs.declared.value.Condition.{Condition}
 use Rattle.rpc_messages.specs.declared.pattern.Pattern.TheVariants as pattern
-use Rattle.syntax_trees.specs.declared.ast.Ast.{Ast}
-use Rattle.syntax_trees.specs.declared.row.Bare.{Bare}
-use Rattle.syntax_trees.specs.declared.row.Bare.TheVariants as bare
-use Rattle.syntax_trees.specs.declared.row.Holder.TheVariants as holder
-use Rattle.syntax_trees.specs.declared.row.Named.TheVariants as named
-use Rattle.syntax_trees.specs.declared.row.Row.{Row}
-use Rattle.syntax_trees.specs.declared.row.Row.TheVariants as row
 use Rattle.term_model.specs.declared.focus.Focus.{Focus}
 use Rattle.term_model.specs.declared.focus.Focus.TheVariants as focus
 use Rattle.term_model.specs.declared.found.Found.{Found}
@@ -23,25 +14,53 @@ use Rattle.term_model.specs.declared.frame.Frame.TheVariants as frame
 use Rattle.term_model.specs.declared.kept.Outcome.{Outcome}
 use Rattle.term_model.specs.declared.kept.Outcome.TheVariants as outcome
 use Rattle.term_model.specs.declared.plain.Plain.{Plain}
-use Rattle.term_model.specs.declared.plain.Plain.TheVariants as plain
-use Rattle.term_model.specs.GoingIn.{advanced, resumed}
-use Rattle.term_model.specs.Progress.{Progress}
+use Rattle.term_model.specs.GoingIn.{resumed}
 use Rattle.term_model.specs.Room.{Entered, is_within, room, wrap}
 use Rattle.term_model.specs.Term.{Context}
-use Rattle.term_model.specs.Variables.{lexical, with_lexical}
+use Rattle.term_model.specs.Variables.{with_lexical}
 use Rattle.step_model.specs.Act as act
 use Rattle.step_model.specs.Act.{Act}
-use Rattle.step_model.specs.Local.{Spot, entered_alone, gives_alone, given_to, goes_alone, if_built, is_announced, is_inside, is_integer, is_lexical_in, is_list, is_listed, is_listed_bare, is_listed_form, is_listed_marker, is_listed_setq, is_none_or, lays_alone, lays_alone_if, performed_alone, step_alone, unannounced}
+use Rattle.step_model.specs.Local.{Spot, found_has_room, has_room, have_room, is_announced, is_inside, is_local, is_local_act, is_of_term, is_quiet, of_term, outcome_has_room, resumed_has_room, spot_if, spot_of, step_alone}
 use Rattle.step_model.specs.Now.{Now, around, puts}
 use Rattle.step_model.specs.Perform.{assigns_or, given, gives_in, goes, laid, lays, lays_if, outward, perform}
 use Rattle.step_model.specs.Requests.{asked}
 use Rattle.step_model.specs.Rules.{Asked, Rules}
 use Rattle.step_model.specs.Step.{act_if, announced_at, begun, is_form_built, is_row_built, raises, step}
 use Rattle.step_model.specs.Decision.{Decision, Alone, Beyond, decided, decided_alone}
-use Rattle.step_model.specs.Forms as forms
-use Rattle.step_model.specs.Kinds.{integer_in, list_in}
-use Rattle.step_model.specs.Table.{alone, decide, given_row}
+use Rattle.step_model.specs.Table.{alone, decide}
 use Rattle.step_model.specs.Table as table
+
+-- ---- what an act makes of the term, None where it needs or changes more
+
+abbrev pub entered_alone : Entered → Option Spot
+entered_alone e = option_map (λ f. (e.around, f)) e.redex
+
+abbrev pub lays_alone_if : Bool → Entered → Option Spot
+lays_alone_if true e = entered_alone e
+lays_alone_if false e = None
+
+abbrev pub lays_alone : Context → List Plain → Found → Option Spot
+lays_alone c ps found = lays_alone_if (is_within c) (wrap (room c) c ps found)
+
+abbrev pub given_to : Plain → Context → Value → Option Found → Option Spot
+given_to p c v (Some found) = lays_alone c [] found
+given_to p c v None = Some (frame.On p ∷ c, focus.Given (outcome.Value v))
+
+abbrev pub gives_alone : Context → Outcome → Option Spot
+gives_alone (frame.On p ∷ c) (outcome.Value v) = given_to p c v (resumed p v)
+gives_alone c o = Some (c, focus.Given o)
+
+abbrev pub goes_alone : Context → List Plain → Found → Option Spot
+goes_alone c [] (Already v) = gives_alone c (outcome.Value v)
+goes_alone c ps found = lays_alone c ps found
+
+abbrev pub performed_alone : Context → Act → Option Spot
+performed_alone c (act.Goes ps found) = goes_alone c ps found
+performed_alone c (act.Gives o) = gives_alone c o
+performed_alone c (act.Resumes f) = Some (c, f)
+performed_alone c (act.Outward a) = performed_alone (outward c) a
+performed_alone c (act.Assigns x v a) = option_and_then (λ d. performed_alone d a) (with_lexical x v c)
+performed_alone c _ = None
 
 -- what the term alone gives, where it gives something, is what the thread comes to
 abbrev Gets : Option Spot → Now → Now → Type 0
@@ -55,7 +74,7 @@ laid_alone n e = by (e.around) (e.redex)
     by c None = tt
     by c (Some f) = refl
 
-lays_if_alone : (n : Now) (c : Context) (b : Bool) (ps : List Plain) (found : Found) → Gets (lays_alone_if b c ps found) n (lays_if b (around n c) ps found)
+lays_if_alone : (n : Now) (c : Context) (b : Bool) (ps : List Plain) (found : Found) → Gets (lays_alone_if b (wrap (room c) c ps found)) n (lays_if b (around n c) ps found)
 lays_if_alone n c true ps found = laid_alone n (wrap (room c) c ps found)
 lays_if_alone n c false ps found = tt
 
@@ -94,6 +113,10 @@ performed_is n (act.Outward a) =
 performed_is n (act.Assigns x v a) = assigned_is n x v a (with_lexical x v n.context) (λ m. performed_is m a)
 performed_is n a = tt
 
+-- the thread once the act is carried out
+pub act_spot : (n : Now) (a : Act) (s : Spot) → performed_alone n.context a ≡ Some s → perform n a ≡ puts n s.0 s.1
+act_spot n a s e = subst (λ o. Gets o n (perform n a)) e (performed_is n a)
+
 -- such an act is no raise
 raises_not_assigned : (a : Act) (s : Spot) (o : Option Context) → ((d : Context) → performed_alone d a ≡ Some s → raises a ≡ false) → option_and_then (λ d. performed_alone d a) o ≡ Some s → raises a ≡ false
 raises_not_assigned a s None go e = absurd (cc)
@@ -121,10 +144,6 @@ and_first false b e = absurd (false≢true e)
 both_true : (a b : Bool) → a ≡ true → b ≡ false → (a && not b) ≡ true
 both_true a b e g = ap (λ x. x && not b) e ∙ ap not g
 
-unannounced_is : (s : Spot) (t : Spot) (b : Bool) → is_announced s.0 s.1 ≡ b → (if b then None else Some s) ≡ Some t → (is_announced s.0 s.1 ≡ false) × (s ≡ t)
-unannounced_is s t true e h = absurd (cc)
-unannounced_is s t false e h = (e, cc)
-
 announced_not : (n : Now) (c : Context) (f : Focus) → is_announced c f ≡ false → announced_at n c f ≡ n
 announced_not n (frame.Sldb k condition true ∷ c) (focus.Wait pattern.Rex) e = absurd (false≢true (sym e))
 announced_not n c f e = refl
@@ -135,115 +154,104 @@ decided_is n (Alone b) a e = cc
 decided_is n (Beyond g) a e = absurd (cc)
 
 -- the step of an act that the term alone decides
-acted : (rules : Rules) (n : Now) (a : Act) (q : Option Spot) (s : Spot) → is_form_built n.context n.redex ≡ true → alone rules n.context n.redex ≡ Some a → performed_alone n.context a ≡ q → option_and_then unannounced q ≡ Some s → step rules n ≡ puts (begun n) s.0 s.1
-acted rules n a None s built is e h = absurd (cc)
-acted rules n a (Some q) s built is e h =
-    let quiet = unannounced_is q s (is_announced q.0 q.1) refl h in
+acted : (rules : Rules) (n : Now) (a : Act) (s : Spot) → is_form_built n.context n.redex ≡ true → alone rules n.context n.redex ≡ Some a → performed_alone n.context a ≡ Some s → is_announced s.0 s.1 ≡ false → step rules n ≡ puts (begun n) s.0 s.1
+acted rules n a s built is e quiet =
     let row_is : table.row rules n n.redex ≡ a = decided_is n (decide rules n.context n.redex) a is in
-    let no_raise : raises (table.row rules n n.redex) ≡ false = ap raises row_is ∙ raises_not n.context a q e in
+    let no_raise : raises (table.row rules n n.redex) ≡ false = ap raises row_is ∙ raises_not n.context a s e in
     let is_built : (is_row_built rules (asked n) n.context n.redex && not (raises (table.row rules n n.redex))) ≡ true =
     both_true (is_row_built rules (asked n) n.context n.redex) (raises (table.row rules n n.redex)) (row_built rules (asked n) n.context n.redex built) no_raise in
     let act_is : act_if (is_row_built rules (asked n) n.context n.redex && not (raises (table.row rules n n.redex))) n (table.row rules n n.redex) ≡ a = ap (λ b. act_if b n (table.row rules n n.redex)) is_built ∙ row_is in
-    let done : perform (begun n) a ≡ puts (begun n) q.0 q.1 = subst (λ o. Gets o (begun n) (perform (begun n) a)) e (performed_is (begun n) a) in
+    let done : perform (begun n) a ≡ puts (begun n) s.0 s.1 = act_spot (begun n) a s e in
     ap (λ x. announced_at x x.context x.redex) (ap (λ x. perform (begun n) x) act_is ∙ done)
-    ∙ announced_not (puts (begun n) q.0 q.1) q.0 q.1 quiet.0
-    ∙ ap (λ x. puts (begun n) x.0 x.1) quiet.1
+    ∙ announced_not (puts (begun n) s.0 s.1) s.0 s.1 quiet
 
-local_by : (rules : Rules) (n : Now) (s : Spot) (b : Bool) (o : Option Act) → (is_form_built n.context n.redex && is_inside n.context n.redex) ≡ b → alone rules n.context n.redex ≡ o → if_built b (option_and_then unannounced (option_and_then (performed_alone n.context) o)) ≡ Some s → step rules n ≡ puts (begun n) s.0 s.1
-local_by rules n s false o e g h = absurd (cc)
-local_by rules n s true None e g h = absurd (cc)
-local_by rules n s true (Some a) e g h = acted rules n a (performed_alone n.context a) s (and_first (is_form_built n.context n.redex) (is_inside n.context n.redex) e) g refl h
+-- ---- what has room is made
+
+entered_made : (c : Context) (o : Option Focus) → is_some o ≡ true → is_some {T = Spot} (option_map (λ f. (c, f)) o) ≡ true
+entered_made c (Some f) h = refl
+entered_made c None h = absurd (false≢true h)
+
+made_if : (b : Bool) (e : Entered) → (b && is_some (Entered.redex e)) ≡ true → is_some (lays_alone_if b e) ≡ true
+made_if true e h = entered_made e.around e.redex h
+made_if false e h = absurd (false≢true h)
+
+lays_made : (c : Context) (ps : List Plain) (found : Found) → have_room c ps found ≡ true → is_some (lays_alone c ps found) ≡ true
+lays_made c ps found h = made_if (is_within c) (wrap (room c) c ps found) h
+
+given_made : (p : Plain) (c : Context) (v : Value) (o : Option Found) → resumed_has_room c o ≡ true → is_some (given_to p c v o) ≡ true
+given_made p c v (Some found) h = lays_made c [] found h
+given_made p c v None h = refl
+
+outcome_made : (c : Context) (o : Outcome) → outcome_has_room c o ≡ true → is_some (gives_alone c o) ≡ true
+outcome_made (frame.On p ∷ c) (outcome.Value v) h = given_made p c v (resumed p v) h
+outcome_made c o h = refl
+
+found_made : (c : Context) (ps : List Plain) (found : Found) → found_has_room c ps found ≡ true → is_some (goes_alone c ps found) ≡ true
+found_made c [] (Already v) h = outcome_made c (outcome.Value v) h
+found_made c [] (Here f) h = lays_made c [] (Here f) h
+found_made c [] (Inside p e) h = lays_made c [] (Inside p e) h
+found_made c (p ∷ ps) found h = lays_made c (p ∷ ps) found h
+
+assigned_made : (a : Act) (o : Option Context) → ((d : Context) → is_of_term d a ≡ true → has_room d a ≡ true → is_some (performed_alone d a) ≡ true) → option_map_or (λ d. is_of_term d a) o false ≡ true → option_map_or (λ d. has_room d a) o true ≡ true → is_some (option_and_then (λ d. performed_alone d a) o) ≡ true
+assigned_made a None go h g = absurd (false≢true h)
+assigned_made a (Some d) go h g = go d h g
+
+pub act_made : (c : Context) (a : Act) → is_of_term c a ≡ true → has_room c a ≡ true → is_some (performed_alone c a) ≡ true
+act_made c (act.Goes ps found) h g = found_made c ps found g
+act_made c (act.Gives o) h g = outcome_made c o g
+act_made c (act.Resumes f) h g = refl
+act_made c (act.Outward a) h g = act_made (outward c) a h g
+act_made c (act.Assigns x v a) h g = assigned_made a (with_lexical x v c) (λ d. act_made d a) h g
+act_made c a h g = absurd (false≢true h)
+
+-- ---- a local step
+
+of_some : {A : Type 0} → (o : Option A) → is_some o ≡ true → (x : A) × (o ≡ Some x)
+of_some (Some x) h = (x, refl)
+of_some None h = absurd (false≢true h)
+
+and_second : (a b : Bool) → (a && b) ≡ true → b ≡ true
+and_second true b e = e
+and_second false b e = absurd (false≢true e)
+
+decided_local : {A : Type 0} → (test : A → Bool) (o : Option A) → option_map_or test o false ≡ true → (x : A) × (o ≡ Some x) × (test x ≡ true)
+decided_local test (Some x) h = (x, refl, h)
+decided_local test None h = absurd (false≢true h)
+
+not_true : (b : Bool) → not b ≡ true → b ≡ false
+not_true false h = refl
+not_true true h = absurd (false≢true h)
+
+-- what the act of a local redex makes of the term, which tells nothing
+record Made (c : Context) (a : Act) : Type 0 where
+  spot : Spot
+  made : performed_alone c a ≡ Some spot
+  quiet : is_announced spot.0 spot.1 ≡ false
+
+made_of : (c : Context) (f : Focus) (a : Act) → is_local_act c f a ≡ true → Made c a
+made_of c f a h =
+    let more = and_second (is_of_term c a) (has_room c a && is_quiet (perform (of_term c f) a)) h in
+    let s = of_some (performed_alone c a) (act_made c a (and_first (is_of_term c a) _ h) (and_first (has_room c a) _ more)) in
+    let done : perform (of_term c f) a ≡ puts (of_term c f) s.0.0 s.0.1 = act_spot (of_term c f) a s.0 s.1 in
+    record {
+      spot = s.0;
+      made = s.1;
+      quiet = not_true (is_announced s.0.0 s.0.1) (sym (ap is_quiet done) ∙ and_second (has_room c a) (is_quiet (perform (of_term c f) a)) more);
+    }
+
+spot_if_is : (b : Bool) (s t : Spot) → spot_if b s ≡ Some t → (b ≡ true) × (s ≡ t)
+spot_if_is true s t h = (refl, cc)
+spot_if_is false s t h = absurd (cc)
 
 -- a step that the thread makes by itself changes the term alone, as the table says
 pub local_step : (rules : Rules) (n : Now) (s : Spot) → step_alone rules n.context n.redex ≡ Some s → step rules n ≡ puts (begun n) s.0 s.1
-local_step rules n s h = local_by rules n s (is_form_built n.context n.redex && is_inside n.context n.redex) (alone rules n.context n.redex) refl refl h
-
--- ---- the listed redexes
-
--- the term alone decides
-abbrev IsAlone : Decision → Type 0
-IsAlone x = is_some (decided_alone x) ≡ true
-
-some_variable : (x : Symbol) (o : Option Value) → is_some o ≡ true → IsAlone (forms.variable_row x o)
-some_variable x (Some v) e = refl
-some_variable x None e = absurd (false≢true e)
-
-some_assigns : (x : Symbol) (v : Value) (a : Act) (o : Option Value) → is_some o ≡ true → IsAlone (forms.assigns_row x v a o)
-some_assigns x v a (Some old) e = refl
-some_assigns x v a None e = absurd (false≢true e)
-
-some_setq_named : (c : Context) (v : Value) (a : Act) (o : Option Symbol) → is_lexical_in c o ≡ true → IsAlone (forms.setq_named c v a o)
-some_setq_named c v a (Some x) e = some_assigns x v a (lexical x c) e
-some_setq_named c v a None e = absurd (false≢true e)
-
-some_setq : (c : Context) (xs : List Symbol) (p : Progress) (vs : List Value) → is_listed_setq c xs p vs ≡ true → IsAlone (forms.setq_row c xs p vs)
-some_setq c xs p [] e = absurd (false≢true e)
-some_setq c xs p (v ∷ vs) e = some_setq_named c v (forms.goes_on v p.rest (advanced p)) (slice_get xs (p.done - 1)) e
-
-some_counts : (x : Symbol) (i : ℤ) (count : Value) (es : List Ast) (y : Value-F Value Condition) → is_some (integer_in y) ≡ true → IsAlone (forms.counts_to x i count es y)
-some_counts x i count es (Value-F.Int k) e = refl
-some_counts x i count es (Value-F.Str text) e = absurd (false≢true e)
-some_counts x i count es (Value-F.Sym s) e = absurd (false≢true e)
-some_counts x i count es (Value-F.List vs) e = absurd (false≢true e)
-some_counts x i count es (Value-F.Cond c) e = absurd (false≢true e)
-
-some_lists : (x : Symbol) (i : ℕ) (list : Value) (es : List Ast) (y : Value-F Value Condition) → is_some (list_in y) ≡ true → IsAlone (forms.lists_in x i list es y)
-some_lists x i list es (Value-F.List vs) e = refl
-some_lists x i list es (Value-F.Int k) e = absurd (false≢true e)
-some_lists x i list es (Value-F.Str text) e = absurd (false≢true e)
-some_lists x i list es (Value-F.Sym s) e = absurd (false≢true e)
-some_lists x i list es (Value-F.Cond c) e = absurd (false≢true e)
-
-some_dotimes : (x : Symbol) (p : Progress) (vs : List Value) → is_none_or is_integer vs ≡ true → IsAlone (forms.dotimes_row x p vs)
-some_dotimes x p [] e = refl
-some_dotimes x p (v ∷ vs) e = some_counts x (pos 0) v p.rest (out-Value v) e
-
-some_dolist : (x : Symbol) (p : Progress) (vs : List Value) → is_none_or is_list vs ≡ true → IsAlone (forms.dolist_row x p vs)
-some_dolist x p [] e = refl
-some_dolist x p (v ∷ vs) e = some_lists x 0 v p.rest (out-Value v) e
-
-some_call : (rules : Rules) (g : Symbol) (vs : List Value) (o : Option Value) → is_some o ≡ true → IsAlone (forms.call_row rules g vs o)
-some_call rules g vs (Some v) e = refl
-some_call rules g vs None e = absurd (false≢true e)
-
-some_marker : (rules : Rules) (c : Context) (v : Value) → is_listed_marker c ≡ true → IsAlone (given_row rules c (outcome.Value v))
-some_marker rules [] v e = absurd (false≢true e)
-some_marker rules (frame.On (plain.Before f) ∷ c) v e = refl
-some_marker rules (frame.On (plain.Answer kept) ∷ c) v e = absurd (false≢true e)
-some_marker rules (frame.On p ∷ c) v e = refl
-some_marker rules (frame.Protect k cleanup ∷ c) v e = absurd (false≢true e)
-some_marker rules (frame.Cleanup k kept ∷ c) v e = absurd (false≢true e)
-some_marker rules (frame.Rex i id form ∷ c) v e = absurd (false≢true e)
-some_marker rules (frame.Sldb n condition again ∷ c) v e = absurd (false≢true e)
-some_marker rules (frame.Ask kind tag ∷ c) v e = absurd (false≢true e)
-
-some_bare : (b : Bare) (p : Progress) → is_listed_bare b ≡ true → IsAlone (forms.bare_row b p)
-some_bare bare.If p e = refl
-some_bare bare.When p e = refl
-some_bare bare.Unless p e = refl
-some_bare bare.Cond p e = refl
-some_bare bare.And p e = refl
-some_bare bare.Or p e = refl
-some_bare bare.Progn p e = refl
-some_bare bare.Loop p e = refl
-some_bare b p e = absurd (false≢true e)
-
-some_form : (rules : Rules) (c : Context) (r : Row) (p : Progress) → is_listed_form rules c r p ≡ true → IsAlone (forms.form_by rules c r p)
-some_form rules c (row.Bare b) p e = some_bare b p e
-some_form rules c (row.Held holder.DoTimes x) p e = some_dotimes x p p.values e
-some_form rules c (row.Held holder.DoList x) p e = some_dolist x p p.values e
-some_form rules c (row.Variable x) p e = some_variable x (lexical x c) e
-some_form rules c (row.Setq xs) p e = some_setq c xs p p.values e
-some_form rules c (row.Named named.Call g) p e = some_call rules g p.values (rules.alone g p.values) e
-some_form rules c r p e = absurd (false≢true e)
-
--- each listed redex has a row that the term alone decides
-pub listed_alone : (rules : Rules) (c : Context) (f : Focus) → is_listed rules c f ≡ true → is_some (alone rules c f) ≡ true
-listed_alone rules c (focus.Given (outcome.Value v)) e = some_marker rules c v e
-listed_alone rules c (focus.Given (outcome.Reply r)) e = absurd (false≢true e)
-listed_alone rules c (focus.Form p) e = some_form rules c p.row p e
-listed_alone rules c (focus.Loop es) e = refl
-listed_alone rules c (focus.DoTimes x i count es) e = some_counts x i count es (out-Value count) e
-listed_alone rules c (focus.DoList x i list es) e = some_lists x i list es (out-Value list) e
-listed_alone rules c (focus.Apply g vs) e = some_call rules g vs (rules.alone g vs) e
-listed_alone rules c f e = absurd (false≢true e)
+local_step rules n s h =
+    let c = n.context in
+    let f = n.redex in
+    let is = spot_if_is (is_form_built c f && is_local rules c f) (spot_of (step rules (of_term c f))) s h in
+    let built = and_first (is_form_built c f) (is_local rules c f) is.0 in
+    let inside = and_second (is_form_built c f) (is_local rules c f) is.0 in
+    let x = decided_local (is_local_act c f) (alone rules c f) (and_second (is_inside c f) (option_map_or (is_local_act c f) (alone rules c f) false) inside) in
+    let m = made_of c f x.0 x.2 in
+    let here : step rules (of_term c f) ≡ puts (of_term c f) m.spot.0 m.spot.1 = acted rules (of_term c f) x.0 m.spot built x.1 m.made m.quiet in
+    acted rules n x.0 m.spot built x.1 m.made m.quiet ∙ ap (λ t. puts (begun n) t.0 t.1) (sym (ap spot_of here) ∙ is.1)

@@ -25,14 +25,14 @@ use Rattle.term_model.specs.declared.restart.Restart.{Restart}
 use Rattle.lisp_data.specs.Parts.{nil}
 use Rattle.term_model.specs.GoingIn.{look}
 use Rattle.term_model.specs.Handlers as how
-use Rattle.term_model.specs.Handlers.{HandlerAt, How, find_handler, from_after, from_all}
+use Rattle.term_model.specs.Handlers.{HandlerAt, How, behind, find_handler, in_force}
 use Rattle.term_model.specs.Levels.{Called, Framed, Level, Served, Shown, current_level, frames, locals}
 use Rattle.term_model.specs.Restarts.{first_named, invoking, restarts_of_level}
 use Rattle.term_model.specs.Search.{layer_at}
 use Rattle.term_model.specs.Term.{Context}
 use Rattle.step_model.specs.Act.{Act}
 use Rattle.step_model.specs.Decision.{decided}
-use Rattle.step_model.specs.Facts.{FocusFits, HasClauses, IsCall, LayerFits, LayersFit, bare_plain, bares, names_handlers, waits}
+use Rattle.step_model.specs.Facts.{FocusFits, HasHandlers, IsCall, LayerFits, LayersFit, bare_plain, bares, names_handlers, waits}
 use Rattle.step_model.specs.Now.{Now, around}
 use Rattle.step_model.specs.Requests as requests
 use Rattle.step_model.specs.Rules as rules_of
@@ -40,7 +40,7 @@ use Rattle.step_model.specs.Rules.{Command, Finish, Rules}
 use Rattle.step_model.specs.Table as table
 use Rattle.step_model.proofs.FitLemmas.{FoundFits, Place, PlainsFit, body_fits, look_fits}
 use Rattle.step_model.proofs.PerformFits.{ActFits}
-use Rattle.step_model.proofs.SearchFits.{CalledAt, HandlerFits, LevelFits, MaybeCalled, call_takes_value, frame_called, handler_fits, level_fits, names_out}
+use Rattle.step_model.proofs.SearchFits.{CalledAt, ClauseFits, HandlerFits, LevelFits, MaybeCalled, call_takes_value, frame_called, further_handler_fits, handler_fits, level_fits, names_out}
 use Rattle.step_model.proofs.TargetFits.{abort_fits, invoking_fits, top_fits}
 use Rattle.step_model.proofs.FormFits.{call_row_fits, counts_row, form_by_row, lists_row}
 use Rattle.step_model.proofs.FunctionFits.{Busy, There, exits_or_row, goes_in, made_row, maps_row, or_raise_row, or_refuse_row, prints_row, tree_row, value_row}
@@ -130,10 +130,10 @@ forms_row rules n place (p ∷ ps) o =
 
 -- ---- the table
 
-handles_row : (n : Now) → Busy n → (c : Condition) (p j : ℕ) (h : How) → (1 ≤ p) × (names_handlers p (There n) ≡ true) × HasClauses (layer_at p (There n)) → ActFits (table.handles c p j h) (There n)
+handles_row : (n : Now) → Busy n → (c : Condition) (p j : ℕ) (h : How) → (1 ≤ p) × (names_handlers p (There n) ≡ true) × HasHandlers (layer_at p (There n)) × ClauseFits h j (layer_at p (There n)) → ActFits (table.handles c p j h) (There n)
 handles_row n place c p j (how.Function g) h =
     (place, ((place.busy, h.1), ((refl, names_out p (frame.On (plain.Before (focus.SignalPast c p j))) (There n) refl h.2 h.1), tt)), refl)
-handles_row n place c p j how.Clause h = (place.layers, (h.0, h.2))
+handles_row n place c p j how.Clause h = (place.layers, (h.0, h.3))
 
 signals_row : (n : Now) → Busy n → (c : Condition) (o : Option HandlerAt) → HandlerFits o (There n) → ActFits (table.signals c o) (There n)
 signals_row n place c None h = value_row (There n) place nil
@@ -200,8 +200,8 @@ busy_row rules n place (focus.Map g list next collected) e = maps_row (There n) 
 busy_row rules n place (focus.Wait p) e = absurd (false≢true (sym e))
 busy_row rules n place (focus.Break o) e = place
 busy_row rules n place focus.Abort e = absurd (false≢true (sym e))
-busy_row rules n place (focus.Signal c) e = signals_row n place c (find_handler c.kind (from_all n.context) n.context) (handler_fits c.kind (from_all n.context) n.context)
-busy_row rules n place (focus.SignalPast c p j) e = signals_row n place c (find_handler c.kind (from_after p j) n.context) (handler_fits c.kind (from_after p j) n.context)
+busy_row rules n place (focus.Signal c) e = signals_row n place c (find_handler c.kind (in_force n.context)) (handler_fits c.kind n.context)
+busy_row rules n place (focus.SignalPast c p j) e = signals_row n place c (find_handler c.kind (behind p j (in_force n.context))) (further_handler_fits c.kind p j n.context)
 busy_row rules n place (focus.Enter c) e = place
 busy_row rules n place (focus.Warn c) e = prints_row (There n) place (table.warning c) nil
 busy_row rules n place focus.Rpc e = commanded_row n place (rules.command (requests.asked n))

@@ -1,55 +1,86 @@
 -- What the searches for handlers and for the frames of a level find fits.
-use Rattle.std.proofs.Common.{◌≡◌, ◌≢◌, ℕ, zero, suc, ◌+◌, ◌≤◌, Bool, true, false, List, [], ◌∷◌, ◌++◌, length, Option, Some, None, refl, sym, ◌∙◌, subst, arith}
-use Rattle.std.specs.Prelude.{ℤ, pos, negsuc, if◌then◌else◌, ◌==◌, nat_lt, drop, slice_get}
+use Rattle.std.proofs.Common.{◌≡◌, ◌≢◌, ℕ, zero, suc, ◌+◌, ◌≤◌, Bool, true, false, ◌&&◌, List, [], ◌∷◌, ◌++◌, length, Option, Some, None, refl, sym, ap, ◌∙◌, subst, arith}
+use Rattle.std.specs.Prelude.{ℤ, pos, negsuc, if◌then◌else◌, ◌==◌, is_some, nat_lt, slice_get}
 use Rattle.std.proofs.lemmas.Bool.{false≢true, eq-eqb, eqb-true}
 use Rattle.lisp_data.specs.declared.type_id.TypeId.{TypeId}
 use Rattle.term_model.specs.declared.frame.Frame.{Frame}
 use Rattle.term_model.specs.declared.frame.Frame.TheVariants as frame
+use Rattle.syntax_trees.specs.declared.ast.Ast.{Ast}
 use Rattle.term_model.specs.declared.plain.Cluster.{Cluster}
+use Rattle.term_model.specs.declared.plain.Cluster.TheVariants.{Clauses, Functions, Ignoring}
+use Rattle.term_model.specs.declared.plain.HandlerFunction.{HandlerFunction}
 use Rattle.term_model.specs.declared.plain.Plain.TheVariants as plain
-use Rattle.term_model.specs.Handlers.{From, HandlerAt, How, find_handler, first_for, handlers_of, in_layer, or_further, past_mark, takes}
+use Rattle.term_model.specs.Handlers as how
+use Rattle.term_model.specs.Handlers.{HandlerAt, How, behind, clauses_of, find_handler, functions_of, handlers_of, in_force, in_force_from, of_layer, past_mark, placed, takes}
 use Rattle.term_model.specs.Levels.{Called, Framed, Level, Served, Shown, current_level, framed_by, frames, frames_from, shown_in}
 use Rattle.term_model.specs.Search.{layer_at}
 use Rattle.term_model.specs.Term.{Context}
-use Rattle.step_model.specs.Facts.{HasClauses, IsCall, TakesValue, bare, bares, named_in, names_handlers}
+use Rattle.step_model.specs.Facts.{HasClause, HasHandlers, IsCall, TakesValue, bare, bares, named_in, names_handlers}
 use Rattle.step_model.specs.Requests.{item_at}
 use Rattle.step_model.proofs.BareLemmas.{length-bares}
 use Rattle.step_model.proofs.TargetFits.{layer_here, layer_none, layer_past}
 
 -- ---- handlers
 
+-- the clause of a handler that is one
+abbrev pub ClauseFits : How → ℕ → Option Frame → Type 0
+ClauseFits (how.Function g) i o = Unit {0}
+ClauseFits how.Clause i o = HasClause i o
+
 abbrev pub HandlerFits : Option HandlerAt → Context → Type 0
 HandlerFits None d = Unit {0}
-HandlerFits (Some h) d = (1 ≤ h.layer) × (names_handlers h.layer d ≡ true) × HasClauses (layer_at h.layer d)
+HandlerFits (Some h) d = (1 ≤ h.layer) × (names_handlers h.layer d ≡ true) × HasHandlers (layer_at h.layer d) × ClauseFits h.how h.index (layer_at h.layer d)
 
-abbrev LayerIs : ℕ → Option HandlerAt → Type 0
-LayerIs n None = Unit {0}
-LayerIs n (Some h) = h.layer ≡ n
-
-if_is : (b : Bool) (n : ℕ) (o p : Option HandlerAt) → LayerIs n o → LayerIs n p → LayerIs n (if b then o else p)
-if_is true n o p h g = h
-if_is false n o p h g = g
-
-first_is : (kind : TypeId) (n i : ℕ) (hs : List (Option TypeId × How)) → LayerIs n (first_for kind n i hs)
-first_is kind n i [] = tt
-first_is kind n i (h ∷ hs) = if_is (takes kind h.0) n _ _ refl (first_is kind n (i + 1) hs)
-
-in_layer_is : (kind : TypeId) (from : From) (n : ℕ) (cluster : Cluster) → LayerIs n (in_layer kind from n cluster)
-in_layer_is kind from n cluster =
-    if_is (nat_lt from.layer n) n _ _ tt (if_is (n == from.layer) n _ _ (first_is kind n from.index (drop from.index (handlers_of cluster))) (first_is kind n 0 (handlers_of cluster)))
+abbrev AllFit : List HandlerAt → Context → Type 0
+AllFit [] d = Unit {0}
+AllFit (h ∷ hs) d = HandlerFits (Some h) d × AllFit hs d
 
 named_here : (x : Bool) (cluster : Cluster) (further : Bool) → x ≡ true → named_in x (frame.On (plain.Handlers cluster)) further ≡ true
 named_here true cluster further e = refl
 named_here false cluster further e = absurd (false≢true e)
 
-handlers_here : (cluster : Cluster) (c : Context) (o : Option HandlerAt) → LayerIs (length c + 1) o → HandlerFits o (bares (frame.On (plain.Handlers cluster) ∷ c))
-handlers_here cluster c None e = tt
-handlers_here cluster c (Some h) e =
+handler_here : (cluster : Cluster) (c : Context) (h : HandlerAt) → h.layer ≡ length c + 1 → ClauseFits h.how h.index (Some (frame.On (plain.Handlers cluster))) → HandlerFits (Some h) (bares (frame.On (plain.Handlers cluster) ∷ c))
+handler_here cluster c h e clause =
     let at : h.layer ≡ length (bares c) + 1 = omega (arith, e, length-bares c) in (
       omega (arith, e),
       named_here (h.layer == length (bares c) + 1) cluster (names_handlers h.layer (bares c)) (eq-eqb h.layer (length (bares c) + 1) at),
-      subst HasClauses (sym (layer_here h.layer (frame.On (plain.Handlers cluster)) (bares c) at)) tt,
+      subst HasHandlers (sym (layer_here h.layer (frame.On (plain.Handlers cluster)) (bares c) at)) tt,
+      subst (ClauseFits h.how h.index) (sym (layer_here h.layer (frame.On (plain.Handlers cluster)) (bares c) at)) clause,
     )
+
+-- each handler of a cluster that is a clause is one of the cluster's
+abbrev ClausesFit : Cluster → ℕ → List (Option TypeId × How) → Type 0
+ClausesFit cluster i [] = Unit {0}
+ClausesFit cluster i (h ∷ hs) = ClauseFits h.1 i (Some (frame.On (plain.Handlers cluster))) × ClausesFit cluster (i + 1) hs
+
+functions_fit : (all : List HandlerFunction) (i : ℕ) (hs : List HandlerFunction) → ClausesFit (Functions all) i (functions_of hs)
+functions_fit all i [] = tt
+functions_fit all i (h ∷ hs) = (tt, functions_fit all (i + 1) hs)
+
+clauses_fit : (all : List Ast) (i : ℕ) (rest : List Ast) → ((j : ℕ) → slice_get all (i + j) ≡ slice_get rest j) → ClausesFit (Clauses all) i (clauses_of rest)
+clauses_fit all i [] go = tt
+clauses_fit all i (a ∷ more) go =
+    let e : i ≡ i + 0 = omega arith in (
+      ap is_some (ap (slice_get all) e ∙ go 0),
+      clauses_fit all (i + 1) more (λ j. let g : i + 1 + j ≡ i + suc j = omega arith in ap (slice_get all) g ∙ go (suc j)),
+    )
+
+cluster_fits : (cluster : Cluster) → ClausesFit cluster 0 (handlers_of cluster)
+cluster_fits (Functions hs) = functions_fit hs 0 hs
+cluster_fits (Clauses clauses) = clauses_fit clauses 0 clauses (λ j. let e : 0 + j ≡ j = omega arith in ap (slice_get clauses) e)
+cluster_fits Ignoring = (refl, tt)
+
+placed_fit : (cluster : Cluster) (c : Context) (i : ℕ) (hs : List (Option TypeId × How)) → ClausesFit cluster i hs → AllFit (placed (length c + 1) i hs) (bares (frame.On (plain.Handlers cluster) ∷ c))
+placed_fit cluster c i [] f = tt
+placed_fit cluster c i (h ∷ hs) f = (handler_here cluster c (record { layer = length c + 1; index = i; kind = h.0; how = h.1 }) refl f.0, placed_fit cluster c (i + 1) hs f.1)
+
+none_or_fit : (b : Bool) (hs : List HandlerAt) (d : Context) → AllFit hs d → AllFit (if b then [] else hs) d
+none_or_fit true hs d f = tt
+none_or_fit false hs d f = f
+
+append_fit : (hs more : List HandlerAt) (d : Context) → AllFit hs d → AllFit more d → AllFit (hs ++ more) d
+append_fit [] more d f g = g
+append_fit (h ∷ hs) more d f g = (f.0, append_fit hs more d f.1 g)
 
 abbrev is_level : Frame → Bool
 is_level (frame.Sldb n condition again) = true
@@ -64,37 +95,60 @@ named_further false (frame.Cleanup k kept) further ne e = refl
 named_further false (frame.Rex i id form) further ne e = refl
 named_further false (frame.Ask kind tag) further ne e = refl
 
-has_clauses_within : (n : ℕ) (d : Context) → HasClauses (layer_at n d) → n ≢ length d + 1
-has_clauses_within n d h e = subst HasClauses (layer_none n d (omega arith)) h
+has_handlers_within : (n : ℕ) (d : Context) → HasHandlers (layer_at n d) → n ≢ length d + 1
+has_handlers_within n d h e = subst HasHandlers (layer_none n d (omega arith)) h
 
 -- a named layer of handlers is one still, from inside a further layer that is no level
-pub names_out : (n : ℕ) (l : Frame) (d : Context) → is_level l ≡ false → HasClauses (layer_at n d) → names_handlers n d ≡ true → names_handlers n (l ∷ d) ≡ true
+pub names_out : (n : ℕ) (l : Frame) (d : Context) → is_level l ≡ false → HasHandlers (layer_at n d) → names_handlers n d ≡ true → names_handlers n (l ∷ d) ≡ true
 names_out n l d e h g =
-    named_further (n == length d + 1) l (names_handlers n d) (λ same. has_clauses_within n d h (eqb-true n (length d + 1) same)) e ∙ g
+    named_further (n == length d + 1) l (names_handlers n d) (λ same. has_handlers_within n d h (eqb-true n (length d + 1) same)) e ∙ g
 
 handler_out : (o : Option HandlerAt) (l : Frame) (d : Context) → is_level l ≡ false → HandlerFits o d → HandlerFits o (l ∷ d)
 handler_out None l d e h = tt
 handler_out (Some h) l d e f =
-    (f.0, names_out h.layer l d e f.2 f.1, subst HasClauses (sym (layer_past h.layer l d (has_clauses_within h.layer d f.2))) f.2)
+    (f.0, names_out h.layer l d e f.2 f.1, subst HasHandlers (sym (layer_past h.layer l d (has_handlers_within h.layer d f.2))) f.2, subst (ClauseFits h.how h.index) (sym (layer_past h.layer l d (has_handlers_within h.layer d f.2))) f.3)
 
-further_fits : (o further : Option HandlerAt) (d : Context) → HandlerFits o d → HandlerFits further d → HandlerFits (or_further o further) d
-further_fits (Some h) further d f g = f
-further_fits None further d f g = g
+handlers_out : (hs : List HandlerAt) (l : Frame) (d : Context) → is_level l ≡ false → AllFit hs d → AllFit hs (l ∷ d)
+handlers_out [] l d e f = tt
+handlers_out (h ∷ hs) l d e f = (handler_out (Some h) l d e f.0, handlers_out hs l d e f.1)
 
-pub handler_fits : (kind : TypeId) (from : From) (c : Context) → HandlerFits (find_handler kind from c) (bares c)
-handler_fits kind from [] = tt
-handler_fits kind from (frame.Sldb n condition again ∷ c) = tt
-handler_fits kind from (frame.On (plain.Handlers cluster) ∷ c) =
-    further_fits (in_layer kind from (length c + 1) cluster) (find_handler kind from c) (bares (frame.On (plain.Handlers cluster) ∷ c))
-    (handlers_here cluster c (in_layer kind from (length c + 1) cluster) (in_layer_is kind from (length c + 1) cluster))
-    (handler_out (find_handler kind from c) (frame.On (plain.Handlers cluster)) (bares c) refl (handler_fits kind from c))
-handler_fits kind from (frame.On (plain.Handling p j) ∷ c) =
-    handler_out (find_handler kind (past_mark from (length c + 1) p) c) (frame.On (plain.Handling p j)) (bares c) refl (handler_fits kind (past_mark from (length c + 1) p) c)
-handler_fits kind from (frame.On p ∷ c) = handler_out (find_handler kind from c) (bare (frame.On p)) (bares c) refl (handler_fits kind from c)
-handler_fits kind from (frame.Protect k cleanup ∷ c) = handler_out (find_handler kind from c) (frame.Protect k cleanup) (bares c) refl (handler_fits kind from c)
-handler_fits kind from (frame.Cleanup k kept ∷ c) = handler_out (find_handler kind from c) (frame.Cleanup k kept) (bares c) refl (handler_fits kind from c)
-handler_fits kind from (frame.Rex i id form ∷ c) = handler_out (find_handler kind from c) (frame.Rex i id form) (bares c) refl (handler_fits kind from c)
-handler_fits kind from (frame.Ask k tag ∷ c) = handler_out (find_handler kind from c) (frame.Ask k tag) (bares c) refl (handler_fits kind from c)
+in_force_fit : (k : ℕ) (c : Context) → AllFit (in_force_from k c) (bares c)
+in_force_fit k [] = tt
+in_force_fit k (frame.Sldb n condition again ∷ c) = tt
+in_force_fit k (frame.On (plain.Handlers cluster) ∷ c) =
+    append_fit (of_layer k (length c + 1) cluster) (in_force_from k c) (bares (frame.On (plain.Handlers cluster) ∷ c))
+    (none_or_fit (nat_lt k (length c + 1)) (placed (length c + 1) 0 (handlers_of cluster)) (bares (frame.On (plain.Handlers cluster) ∷ c)) (placed_fit cluster c 0 (handlers_of cluster) (cluster_fits cluster)))
+    (handlers_out (in_force_from k c) (frame.On (plain.Handlers cluster)) (bares c) refl (in_force_fit k c))
+in_force_fit k (frame.On (plain.Handling p j) ∷ c) =
+    let further = past_mark k (length c + 1) p in handlers_out (in_force_from further c) (frame.On (plain.Handling p j)) (bares c) refl (in_force_fit further c)
+in_force_fit k (frame.On p ∷ c) = handlers_out (in_force_from k c) (bare (frame.On p)) (bares c) refl (in_force_fit k c)
+in_force_fit k (frame.Protect serial cleanup ∷ c) = handlers_out (in_force_from k c) (frame.Protect serial cleanup) (bares c) refl (in_force_fit k c)
+in_force_fit k (frame.Cleanup serial kept ∷ c) = handlers_out (in_force_from k c) (frame.Cleanup serial kept) (bares c) refl (in_force_fit k c)
+in_force_fit k (frame.Rex i id form ∷ c) = handlers_out (in_force_from k c) (frame.Rex i id form) (bares c) refl (in_force_fit k c)
+in_force_fit k (frame.Ask kind tag ∷ c) = handlers_out (in_force_from k c) (frame.Ask kind tag) (bares c) refl (in_force_fit k c)
+
+found_fits : (kind : TypeId) (hs : List HandlerAt) (d : Context) → AllFit hs d → HandlerFits (find_handler kind hs) d
+found_fits kind [] d f = tt
+found_fits kind (h ∷ hs) d f = by (takes kind h.kind) (found_fits kind hs d f.1)
+  where
+    by : (b : Bool) → HandlerFits (find_handler kind hs) d → HandlerFits (if b then Some h else find_handler kind hs) d
+    by true g = f.0
+    by false g = g
+
+behind_fit : (n i : ℕ) (hs : List HandlerAt) (d : Context) → AllFit hs d → AllFit (behind n i hs) d
+behind_fit n i [] d f = tt
+behind_fit n i (h ∷ hs) d f = by (h.layer == n && h.index == i) (behind_fit n i hs d f.1)
+  where
+    by : (b : Bool) → AllFit (behind n i hs) d → AllFit (if b then hs else behind n i hs) d
+    by true g = f.1
+    by false g = g
+
+-- the handler that is found for a condition, and the one that is found behind another, name a layer of handlers
+pub handler_fits : (kind : TypeId) (c : Context) → HandlerFits (find_handler kind (in_force c)) (bares c)
+handler_fits kind c = found_fits kind (in_force c) (bares c) (in_force_fit (length c) c)
+
+pub further_handler_fits : (kind : TypeId) (n i : ℕ) (c : Context) → HandlerFits (find_handler kind (behind n i (in_force c))) (bares c)
+further_handler_fits kind n i c = found_fits kind (behind n i (in_force c)) (bares c) (behind_fit n i (in_force c) (bares c) (in_force_fit (length c) c))
 
 -- ---- frames
 

@@ -23,7 +23,7 @@ use Rattle.term_model.specs.Search.{Sight, layer_at, nearest, seen}
 use Rattle.term_model.specs.Targets.{block_in, catch_in, find_block, find_catch}
 use Rattle.lisp_data.specs.Same.{same_symbol, same_value}
 use Rattle.term_model.specs.Term.{Context}
-use Rattle.step_model.specs.Facts.{HasClauses, IsCall, IsRequest, LayerFits, LayersFit, TakesValue, TargetFits, bare, bares, waits}
+use Rattle.step_model.specs.Facts.{HasClause, IsCall, IsRequest, LayerFits, LayersFit, TakesValue, TargetFits, bare, bares, is_clause, is_run, waits}
 use Rattle.step_model.proofs.BareLemmas.{length-bares}
 
 -- ---- layers by their numbers
@@ -66,17 +66,17 @@ layer_at-bares target (l ∷ c) =
 -- a layer that is no target of any exit
 record NoTarget (l : Frame) : Type 0 where
   no_value : TakesValue (Some l) → ⊥
-  no_clauses : HasClauses (Some l) → ⊥
+  no_clauses : (i : ℕ) → HasClause i (Some l) → ⊥
   no_call : IsCall (Some l) → ⊥
   no_request : IsRequest (Some l) → ⊥
 
 no_protected : (k : ℕ) (cleanup : List Ast) → NoTarget (frame.Protect k cleanup)
-no_protected k cleanup = record { no_value = λ h. h; no_clauses = λ h. h; no_call = λ h. h; no_request = λ h. h }
+no_protected k cleanup = record { no_value = λ h. h; no_clauses = λ i h. h; no_call = λ h. h; no_request = λ h. h }
 
 target_not : (target : ℕ) (b : Bring) (l : Frame) (d : Context) → NoTarget l → TargetFits target b (l ∷ d) → TargetFits target b d
 target_not target (bring.Value v) l d none h = (h.0, pick TakesValue (target == length d + 1) l (layer_at target d) none.no_value h.1)
 target_not target (bring.Reply r) l d none h = (h.0, pick TakesValue (target == length d + 1) l (layer_at target d) none.no_value h.1)
-target_not target (bring.Clause i vs) l d none h = (h.0, pick HasClauses (target == length d + 1) l (layer_at target d) none.no_clauses h.1)
+target_not target (bring.Clause i vs) l d none h = (h.0, pick (HasClause i) (target == length d + 1) l (layer_at target d) (none.no_clauses i) h.1)
 target_not target bring.Call l d none h = (h.0, pick IsCall (target == length d + 1) l (layer_at target d) none.no_call h.1)
 target_not target bring.Nothing l d none h =
     ⊎_elim (λ e. inl e) (λ r. inr (r.0, pick IsRequest (target == length d + 1) l (layer_at target d) none.no_request r.1)) h
@@ -85,7 +85,7 @@ target_not target bring.Nothing l d none h =
 target_same : (target : ℕ) (b : Bring) (c d : Context) → layer_at target c ≡ layer_at target d → TargetFits target b c → TargetFits target b d
 target_same target (bring.Value v) c d e h = (h.0, subst TakesValue e h.1)
 target_same target (bring.Reply r) c d e h = (h.0, subst TakesValue e h.1)
-target_same target (bring.Clause i vs) c d e h = (h.0, subst HasClauses e h.1)
+target_same target (bring.Clause i vs) c d e h = (h.0, subst (HasClause i) e h.1)
 target_same target bring.Call c d e h = (h.0, subst IsCall e h.1)
 target_same target bring.Nothing c d e h = ⊎_elim (λ z. inl z) (λ r. inr (r.0, subst IsRequest e r.1)) h
 
@@ -96,7 +96,7 @@ target_past target b l d ne h = target_same target b (l ∷ d) d (layer_past tar
 beyond : (target : ℕ) (b : Bring) (d : Context) → target ≡ length d + 1 → TargetFits target b d → ⊥
 beyond target (bring.Value v) d e h = subst TakesValue (layer_none target d (omega arith)) h.1
 beyond target (bring.Reply r) d e h = subst TakesValue (layer_none target d (omega arith)) h.1
-beyond target (bring.Clause i vs) d e h = subst HasClauses (layer_none target d (omega arith)) h.1
+beyond target (bring.Clause i vs) d e h = subst (HasClause i) (layer_none target d (omega arith)) h.1
 beyond target bring.Call d e h = subst IsCall (layer_none target d (omega arith)) h.1
 beyond target bring.Nothing d e h = ⊎_elim (λ (z : target ≡ 0). absurd (omega arith)) (λ r. subst IsRequest (layer_none target d (omega arith)) r.1) h
 
@@ -126,15 +126,15 @@ busy_value (frame.Rex i id form) d t h = absurd t
 busy_value (frame.Sldb n condition told) d t h = absurd t
 busy_value (frame.Ask kind tag) d t h = absurd t
 
-busy_clauses : (l : Frame) (d : Context) → HasClauses (Some (bare l)) → LayerFits (bare l) d → waits d ≡ false
-busy_clauses (frame.On (plain.Handlers cluster)) d t h = h
-busy_clauses (frame.On (plain.Restarts offers)) d t h = h
-busy_clauses (frame.On p) d t h = absurd t
-busy_clauses (frame.Protect k cleanup) d t h = absurd t
-busy_clauses (frame.Cleanup k kept) d t h = absurd t
-busy_clauses (frame.Rex i id form) d t h = absurd t
-busy_clauses (frame.Sldb n condition told) d t h = absurd t
-busy_clauses (frame.Ask kind tag) d t h = absurd t
+busy_clauses : (i : ℕ) (l : Frame) (d : Context) → HasClause i (Some (bare l)) → LayerFits (bare l) d → waits d ≡ false
+busy_clauses i (frame.On (plain.Handlers cluster)) d t h = h
+busy_clauses i (frame.On (plain.Restarts offers)) d t h = h
+busy_clauses i (frame.On p) d t h = absurd t
+busy_clauses i (frame.Protect k cleanup) d t h = absurd t
+busy_clauses i (frame.Cleanup k kept) d t h = absurd t
+busy_clauses i (frame.Rex at id form) d t h = absurd t
+busy_clauses i (frame.Sldb n condition told) d t h = absurd t
+busy_clauses i (frame.Ask kind tag) d t h = absurd t
 
 busy_call : (l : Frame) (d : Context) → IsCall (Some (bare l)) → LayerFits (bare l) d → waits d ≡ false
 busy_call (frame.On (plain.Call g vs)) d t h = h
@@ -161,7 +161,7 @@ at_top (l ∷ c) e = absurd (omega arith)
 arrives : (target : ℕ) (b : Bring) (l : Frame) (c : Context) → target - 1 ≡ length c → LayerFits (bare l) (bares c) → TargetFits target b (bare l ∷ bares c) → waits (bares c) ≡ brings_nothing b
 arrives target (bring.Value v) l c e h g = busy_value l (bares c) (subst TakesValue (layer_here target (bare l) (bares c) (omega (arith, g.0, length-bares c))) g.1) h
 arrives target (bring.Reply r) l c e h g = busy_value l (bares c) (subst TakesValue (layer_here target (bare l) (bares c) (omega (arith, g.0, length-bares c))) g.1) h
-arrives target (bring.Clause i vs) l c e h g = busy_clauses l (bares c) (subst HasClauses (layer_here target (bare l) (bares c) (omega (arith, g.0, length-bares c))) g.1) h
+arrives target (bring.Clause i vs) l c e h g = busy_clauses i l (bares c) (subst (HasClause i) (layer_here target (bare l) (bares c) (omega (arith, g.0, length-bares c))) g.1) h
 arrives target bring.Call l c e h g = busy_call l (bares c) (subst IsCall (layer_here target (bare l) (bares c) (omega (arith, g.0, length-bares c))) g.1) h
 arrives target bring.Nothing l c e h g =
     ⊎_elim (λ (z : target ≡ 0). at_top c (omega arith))
@@ -219,7 +219,7 @@ inside_context target b c g = not_more (target - 1) (length c) (λ more. far tar
     far : (target : ℕ) (b : Bring) (c : Context) → length c < target - 1 → TargetFits target b (bares c) → ⊥
     far target (bring.Value v) c more h = subst TakesValue (layer_none target (bares c) (omega (arith, length-bares c))) h.1
     far target (bring.Reply r) c more h = subst TakesValue (layer_none target (bares c) (omega (arith, length-bares c))) h.1
-    far target (bring.Clause i vs) c more h = subst HasClauses (layer_none target (bares c) (omega (arith, length-bares c))) h.1
+    far target (bring.Clause i vs) c more h = subst (HasClause i) (layer_none target (bares c) (omega (arith, length-bares c))) h.1
     far target bring.Call c more h = subst IsCall (layer_none target (bares c) (omega (arith, length-bares c))) h.1
     far target bring.Nothing c more h = ⊎_elim (λ (z : target ≡ 0). absurd (omega arith)) (λ r. subst IsRequest (layer_none target (bares c) (omega (arith, length-bares c))) r.1) h
 
@@ -296,17 +296,17 @@ LeavingFits (Some x) d = TargetFits x.target x.bring d
 restarts_at : (n : ℕ) (offers : List Offer) (c : Context) → layer_at n c ≡ Some (frame.On (plain.Restarts offers)) → layer_at n (bares c) ≡ Some (frame.On (plain.Restarts offers))
 restarts_at n offers c e = layer_at-bares n c ∙ ap (option_map bare) e
 
-action_fits : (n i : ℕ) (vs : List Value) (a : Action) (offers : List Offer) (c : Context) → 1 ≤ n → layer_at n c ≡ Some (frame.On (plain.Restarts offers)) → LeavingFits (Some (by_action n i vs a)) (bares c)
-action_fits n i vs (Give (outcome.Value v)) offers c h e = (h, subst TakesValue (sym (restarts_at n offers c e)) tt)
-action_fits n i vs (Give (outcome.Reply r)) offers c h e = (h, subst TakesValue (sym (restarts_at n offers c e)) tt)
-action_fits n i vs (Run clause) offers c h e = (h, subst HasClauses (sym (restarts_at n offers c e)) tt)
+action_fits : (n i : ℕ) (vs : List Value) (a : Action) (offers : List Offer) (c : Context) → 1 ≤ n → layer_at n c ≡ Some (frame.On (plain.Restarts offers)) → is_clause (slice_get offers i) ≡ is_run a → LeavingFits (Some (by_action n i vs a)) (bares c)
+action_fits n i vs (Give (outcome.Value v)) offers c h e g = (h, subst TakesValue (sym (restarts_at n offers c e)) tt)
+action_fits n i vs (Give (outcome.Reply r)) offers c h e g = (h, subst TakesValue (sym (restarts_at n offers c e)) tt)
+action_fits n i vs (Run clause) offers c h e g = (h, subst (HasClause i) (sym (restarts_at n offers c e)) g)
 
-offer_fits : (n i : ℕ) (vs : List Value) (o : Option Offer) (offers : List Offer) (c : Context) → 1 ≤ n → layer_at n c ≡ Some (frame.On (plain.Restarts offers)) → LeavingFits (by_offer n i vs o) (bares c)
-offer_fits n i vs None offers c h e = tt
-offer_fits n i vs (Some offer) offers c h e = action_fits n i vs offer.action offers c h e
+offer_fits : (n i : ℕ) (vs : List Value) (o : Option Offer) (offers : List Offer) (c : Context) → 1 ≤ n → layer_at n c ≡ Some (frame.On (plain.Restarts offers)) → slice_get offers i ≡ o → LeavingFits (by_offer n i vs o) (bares c)
+offer_fits n i vs None offers c h e g = tt
+offer_fits n i vs (Some offer) offers c h e g = action_fits n i vs offer.action offers c h e (ap is_clause g)
 
 layer_fits : (n i : ℕ) (vs : List Value) (o : Option Frame) (c : Context) → 1 ≤ n → layer_at n c ≡ o → LeavingFits (by_layer n i vs o) (bares c)
-layer_fits n i vs (Some (frame.On (plain.Restarts offers))) c h e = offer_fits n i vs (slice_get offers i) offers c h e
+layer_fits n i vs (Some (frame.On (plain.Restarts offers))) c h e = offer_fits n i vs (slice_get offers i) offers c h e refl
 layer_fits n i vs (Some (frame.Rex at id form)) c h e = inr (h, subst IsRequest (sym (layer_at-bares n c ∙ ap (option_map bare) e)) tt)
 layer_fits n i vs (Some (frame.On p)) c h e = tt
 layer_fits n i vs (Some (frame.Protect k cleanup)) c h e = tt

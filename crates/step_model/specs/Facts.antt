@@ -1,6 +1,6 @@
 -- What holds of every thread's term: where requests and waits may stand, where saved exits lead, and what running handlers name. The
 -- facts speak of the layers but for the values of variables and for the mark that a level is to be announced again.
-use Rattle.std.specs.Prelude.{◌≡◌, ℕ, ◌+◌, ◌≤◌, ◌⊎◌, ◌==◌, Bool, true, false, [], ◌∷◌, length, map, Option, Some}
+use Rattle.std.specs.Prelude.{◌≡◌, ℕ, ◌+◌, ◌≤◌, ◌⊎◌, ◌==◌, Bool, true, false, is_some, [], ◌∷◌, length, map, Option, Some, None, slice_get}
 use Rattle.rpc_messages.specs.declared.pattern.Pattern.TheVariants as pattern
 use Rattle.term_model.specs.declared.focus.Focus.{Focus}
 use Rattle.term_model.specs.declared.focus.Focus.TheVariants as focus
@@ -9,8 +9,12 @@ use Rattle.term_model.specs.declared.frame.Frame.TheVariants as frame
 use Rattle.term_model.specs.declared.kept.Bring.{Bring}
 use Rattle.term_model.specs.declared.kept.Bring.TheVariants as bring
 use Rattle.term_model.specs.declared.kept.Saved.TheVariants as saved
+use Rattle.term_model.specs.declared.plain.Cluster.TheVariants.{Clauses, Ignoring}
 use Rattle.term_model.specs.declared.plain.Plain.{Plain}
 use Rattle.term_model.specs.declared.plain.Plain.TheVariants as plain
+use Rattle.term_model.specs.declared.restart.Action.{Action}
+use Rattle.term_model.specs.declared.restart.Action.TheVariants.{Give, Run}
+use Rattle.term_model.specs.declared.restart.Offer.{Offer}
 use Rattle.term_model.specs.Breaks.{may_open}
 use Rattle.lisp_data.specs.Parts.{nil}
 use Rattle.term_model.specs.Search.{layer_at}
@@ -60,11 +64,26 @@ TakesValue (Some (frame.On (plain.Restarts offers))) = Unit {0}
 TakesValue (Some (frame.On (plain.Call g vs))) = Unit {0}
 TakesValue _ = ⊥
 
--- a layer with clauses
-abbrev pub HasClauses : Option Frame → Type 0
-HasClauses (Some (frame.On (plain.Handlers cluster))) = Unit {0}
-HasClauses (Some (frame.On (plain.Restarts offers))) = Unit {0}
-HasClauses _ = ⊥
+-- a layer of handlers
+abbrev pub HasHandlers : Option Frame → Type 0
+HasHandlers (Some (frame.On (plain.Handlers cluster))) = Unit {0}
+HasHandlers _ = ⊥
+
+abbrev pub is_run : Action → Bool
+is_run (Give o) = false
+is_run (Run clause) = true
+
+-- a restart that runs a clause
+abbrev pub is_clause : Option Offer → Bool
+is_clause (Some offer) = is_run offer.action
+is_clause None = false
+
+-- a layer with a clause of this number; `ignore-errors` has one
+abbrev pub HasClause : ℕ → Option Frame → Type 0
+HasClause i (Some (frame.On (plain.Handlers (Clauses clauses)))) = is_some (slice_get clauses i) ≡ true
+HasClause i (Some (frame.On (plain.Handlers Ignoring))) = i ≡ 0
+HasClause i (Some (frame.On (plain.Restarts offers))) = is_clause (slice_get offers i) ≡ true
+HasClause i _ = ⊥
 
 abbrev pub IsCall : Option Frame → Type 0
 IsCall (Some (frame.On (plain.Call g vs))) = Unit {0}
@@ -78,7 +97,7 @@ IsRequest _ = ⊥
 abbrev pub TargetFits : ℕ → Bring → Context → Type 0
 TargetFits target (bring.Value v) c = (1 ≤ target) × TakesValue (layer_at target c)
 TargetFits target (bring.Reply r) c = (1 ≤ target) × TakesValue (layer_at target c)
-TargetFits target (bring.Clause i vs) c = (1 ≤ target) × HasClauses (layer_at target c)
+TargetFits target (bring.Clause i vs) c = (1 ≤ target) × HasClause i (layer_at target c)
 TargetFits target bring.Call c = (1 ≤ target) × IsCall (layer_at target c)
 TargetFits target bring.Nothing c = (target ≡ 0) ⊎ ((1 ≤ target) × IsRequest (layer_at target c))
 

@@ -14,7 +14,6 @@ use Rattle.lisp_packages.specs.declared.fault.NameFault.{NameFault}
 use Rattle.lisp_packages.specs.declared.fault.NameFault.TheVariants as fault
 use Rattle.lisp_data.specs.Symbols.{cl}
 use Rattle.term_model.specs.declared.found.Found.TheVariants.{Already}
-use Rattle.lisp_data.specs.Parts.{nil}
 use Rattle.step_model.specs.Act.{Act, Goes, Raises, Writes}
 use Rattle.step_model.specs.CurrentPackage.{current_package}
 use Rattle.step_model.specs.Now.{Now}

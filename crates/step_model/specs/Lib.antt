@@ -18,5 +18,7 @@ pub mod Moves
 pub mod Facts
 pub mod Order
 pub mod Local
+pub mod Listed
+pub mod Shallow
 pub mod Stale
 pub mod Rooms

@@ -35,7 +35,7 @@ use Rattle.term_model.specs.declared.kept.Outcome.{Outcome}
 use Rattle.term_model.specs.declared.kept.Outcome.TheVariants as outcome
 use Rattle.term_model.specs.declared.kept.Saved.{Saved}
 use Rattle.term_model.specs.declared.kept.Saved.TheVariants as saved
-use Rattle.term_model.specs.declared.plain.Cluster.TheVariants.{Clauses}
+use Rattle.term_model.specs.declared.plain.Cluster.TheVariants.{Clauses, Ignoring}
 use Rattle.term_model.specs.declared.plain.Plain.{Plain}
 use Rattle.term_model.specs.declared.plain.Plain.TheVariants as plain
 use Rattle.term_model.specs.declared.question.Ask.{Ask}
@@ -97,10 +97,16 @@ abbrev pub given : Now → Plain → Context → Value → Option Found → Now
 given n p c v (Some found) = lays (around n c) [] found
 given n p c v None = puts n (frame.On p ∷ c) (focus.Given (outcome.Value v))
 
--- an outcome for what is directly around: a form that waits for a value goes on with it
+-- an outcome for what is directly around: a form that waits for a value goes on with it, and any other layer has it as its redex
 abbrev pub gives_in : Now → Context → Outcome → Now
 gives_in n (frame.On p ∷ c) (outcome.Value v) = given n p c v (resumed p v)
-gives_in n c o = puts n c (focus.Given o)
+gives_in n (frame.On p ∷ c) (outcome.Reply r) = puts n (frame.On p ∷ c) (focus.Given (outcome.Reply r))
+gives_in n (frame.Protect k cleanup ∷ c) o = puts n (frame.Protect k cleanup ∷ c) (focus.Given o)
+gives_in n (frame.Cleanup k kept ∷ c) o = puts n (frame.Cleanup k kept ∷ c) (focus.Given o)
+gives_in n (frame.Rex i id form ∷ c) o = puts n (frame.Rex i id form ∷ c) (focus.Given o)
+gives_in n (frame.Sldb k condition again ∷ c) o = puts n (frame.Sldb k condition again ∷ c) (focus.Given o)
+gives_in n (frame.Ask kind tag ∷ c) o = puts n (frame.Ask kind tag ∷ c) (focus.Given o)
+gives_in n [] o = puts n [] (focus.Given o)
 
 abbrev pub gives : Now → Outcome → Now
 gives n o = gives_in n n.context o
@@ -146,9 +152,11 @@ abbrev pub runs_offer : Now → Option Offer → List Value → Now
 runs_offer n None vs = goes n [] (Already nil)
 runs_offer n (Some offer) vs = runs_action n offer.action vs
 
--- the clause of this number of the exit's target, in its place; the one of `ignore-errors` gives NIL
+-- the clause of this number of the exit's target, in its place; the one of `ignore-errors` gives NIL. An exit to a clause leads to a layer
+-- that has it (`HasClause`): so there is a clause of that number, and the last line never comes up
 abbrev pub runs_clause : Now → Option Frame → ℕ → List Value → Now
 runs_clause n (Some (frame.On (plain.Handlers (Clauses clauses)))) i vs = runs_handler n (slice_get clauses i) vs
+runs_clause n (Some (frame.On (plain.Handlers Ignoring))) i vs = goes n [] (Already nil)
 runs_clause n (Some (frame.On (plain.Restarts offers))) i vs = runs_offer n (slice_get offers i) vs
 runs_clause n _ i vs = goes n [] (Already nil)
 
@@ -227,7 +235,11 @@ abbrev pub passes : Now → Context → Outcome → Now
 passes n (frame.Protect k cleanup ∷ c) o = goes (turned n k o c) [] (body cleanup)
 passes n (frame.Cleanup k kept ∷ c) o = finishes (around n c) kept
 passes n (frame.Rex i id form ∷ c) (outcome.Reply r) = ends n c i id r
-passes n c o = puts n c (focus.Given o)
+passes n (frame.Rex i id form ∷ c) (outcome.Value v) = puts n (frame.Rex i id form ∷ c) (focus.Given (outcome.Value v))
+passes n (frame.Sldb k condition again ∷ c) o = puts n (frame.Sldb k condition again ∷ c) (focus.Given o)
+passes n (frame.On p ∷ c) o = puts n (frame.On p ∷ c) (focus.Given o)
+passes n (frame.Ask kind tag ∷ c) o = puts n (frame.Ask kind tag ∷ c) (focus.Given o)
+passes n [] o = puts n [] (focus.Given o)
 
 -- the outcome that a redex is; every other redex is none, and is never passed on
 abbrev pub outcome_of : Focus → Outcome
@@ -292,7 +304,11 @@ takes n p (Some m) = takes_mail (took n p m.0) m.0 m.1
 abbrev pub outward : Context → Context
 outward (frame.On p ∷ c) = c
 outward (frame.Ask kind tag ∷ c) = c
-outward c = c
+outward (frame.Protect k cleanup ∷ c) = frame.Protect k cleanup ∷ c
+outward (frame.Cleanup k kept ∷ c) = frame.Cleanup k kept ∷ c
+outward (frame.Rex i id form ∷ c) = frame.Rex i id form ∷ c
+outward (frame.Sldb k condition again ∷ c) = frame.Sldb k condition again ∷ c
+outward [] = []
 
 abbrev pub written : Writing → Label
 written (Output text repl_result) = Out (message.WriteString text repl_result)

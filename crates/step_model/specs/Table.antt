@@ -23,7 +23,7 @@ use Rattle.term_model.specs.declared.question.Ask.{Ask}
 use Rattle.term_model.specs.declared.question.Ask.TheVariants as question
 use Rattle.lisp_data.specs.Parts.{nil, yes}
 use Rattle.term_model.specs.GoingIn.{look}
-use Rattle.term_model.specs.Handlers.{How, HandlerAt, find_handler, from_after, from_all}
+use Rattle.term_model.specs.Handlers.{How, HandlerAt, behind, find_handler, in_force}
 use Rattle.term_model.specs.Handlers as how
 use Rattle.term_model.specs.Restarts.{abort_exit}
 use Rattle.term_model.specs.Term.{Context}
@@ -61,7 +61,10 @@ is_newline c = c == 10
 -- the answer to a question: of a line, what stands before its first newline; of yes or no, whether it is true
 abbrev pub answered : Ask → Value-F Value Condition → Value
 answered question.String (Value-F.Str text) = value.Str (before_first is_newline text)
-answered question.String _ = nil
+answered question.String (Value-F.Int z) = nil
+answered question.String (Value-F.Sym s) = nil
+answered question.String (Value-F.List vs) = nil
+answered question.String (Value-F.Cond condition) = nil
 answered question.YesNo (Value-F.List []) = nil
 answered question.YesNo _ = yes
 
@@ -70,7 +73,18 @@ answered question.YesNo _ = yes
 abbrev pub given_row : Rules → Context → Outcome → Decision
 given_row rules (frame.On (plain.Before f) ∷ c) o = Alone (Outward (Resumes f))
 given_row rules (frame.On (plain.Answer kept) ∷ c) (outcome.Value v) = Beyond (λ n. Outward (finished (around n c) v (rules.finish (asked (around n c)) kept v)))
-given_row rules (frame.On p ∷ c) o = Alone (Outward (Gives o))
+given_row rules (frame.On (plain.Answer kept) ∷ c) (outcome.Reply r) = Alone (Outward (Gives (outcome.Reply r)))
+given_row rules (frame.On (plain.Form p) ∷ c) o = Alone (Outward (Gives o))
+given_row rules (frame.On (plain.Map f list next collected) ∷ c) o = Alone (Outward (Gives o))
+given_row rules (frame.On (plain.Call f vs) ∷ c) o = Alone (Outward (Gives o))
+given_row rules (frame.On plain.Eval ∷ c) o = Alone (Outward (Gives o))
+given_row rules (frame.On (plain.Lexical x w) ∷ c) o = Alone (Outward (Gives o))
+given_row rules (frame.On (plain.Dynamic x w) ∷ c) o = Alone (Outward (Gives o))
+given_row rules (frame.On (plain.Block name) ∷ c) o = Alone (Outward (Gives o))
+given_row rules (frame.On (plain.Catch tag) ∷ c) o = Alone (Outward (Gives o))
+given_row rules (frame.On (plain.Handlers cluster) ∷ c) o = Alone (Outward (Gives o))
+given_row rules (frame.On (plain.Restarts offers) ∷ c) o = Alone (Outward (Gives o))
+given_row rules (frame.On (plain.Handling p j) ∷ c) o = Alone (Outward (Gives o))
 given_row rules (frame.Ask kind tag ∷ c) (outcome.Value v) = Beyond (λ n. Outward (gives_made (answered kind (out-Value v))))
 given_row rules (frame.Ask kind tag ∷ c) (outcome.Reply r) = Beyond (λ n. Outward (Gives (outcome.Reply r)))
 given_row rules (frame.Protect k cleanup ∷ c) o = Beyond (λ n. Passes)
@@ -104,8 +118,8 @@ decide rules c (focus.Wait p) = Beyond (λ n. Takes p)
 -- interrupts, signals and the debugger
 decide rules c (focus.Break o) = Beyond (λ n. Breaks (came_upon o))
 decide rules c focus.Abort = Beyond (λ n. Exits (abort_exit n.context))
-decide rules c (focus.Signal condition) = Beyond (λ n. signals condition (find_handler condition.kind (from_all n.context) n.context))
-decide rules c (focus.SignalPast condition p j) = Beyond (λ n. signals condition (find_handler condition.kind (from_after p j) n.context))
+decide rules c (focus.Signal condition) = Beyond (λ n. signals condition (find_handler condition.kind (in_force n.context)))
+decide rules c (focus.SignalPast condition p j) = Beyond (λ n. signals condition (find_handler condition.kind (behind p j (in_force n.context))))
 decide rules c (focus.Enter condition) = Beyond (λ n. Opens condition)
 decide rules c (focus.Warn condition) = Beyond (λ n. prints (warning condition) nil)
 -- requests

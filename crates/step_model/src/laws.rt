@@ -1,19 +1,25 @@
 //! The laws of a thread's steps, as the clauses of functions that do nothing. They hold whatever the functions beside the thread give.
-ghost use Rattle.std.specs.Prelude.{◌≡◌, ◌↔◌, ◌+◌, ◌≤◌, [], ℤ, Some, true, is_some};
+ghost use Rattle.std.specs.Prelude.{◌≡◌, ◌↔◌, ◌+◌, ◌≤◌, ℕ, List, [], ◌∷◌, ◌++◌, length, ℤ, Some, true};
 ghost use Rattle.lisp_data.specs.declared.sexp.Sexp.TheVariants as form;
 ghost use Rattle.lisp_data.specs.Symbols.{cl};
 ghost use Rattle.lisp_data.specs.declared.symbol.Symbol.{Symbol};
 ghost use Rattle.rpc_messages.specs.declared.pattern.Pattern.TheVariants as pattern;
 ghost use Rattle.term_model.specs.Breaks.{broken_at, may_open};
+ghost use Rattle.term_model.specs.Handlers.{handlers_of, in_force, placed};
 ghost use Rattle.term_model.specs.Levels.{current_level};
 ghost use Rattle.term_model.specs.Room.{layers, levels, limit};
+ghost use Rattle.term_model.specs.Search.{outside};
 ghost use Rattle.term_model.specs.Term.{Context};
 ghost use Rattle.term_model.specs.declared.focus.Focus.{Focus};
 ghost use Rattle.term_model.specs.declared.focus.Focus.TheVariants as focus;
+ghost use Rattle.term_model.specs.declared.frame.Frame.TheVariants as frame;
 ghost use Rattle.term_model.specs.declared.kept.Outcome.TheVariants as outcome;
+ghost use Rattle.term_model.specs.declared.plain.Cluster.{Cluster};
+ghost use Rattle.term_model.specs.declared.plain.Plain.TheVariants as plain;
 ghost use Rattle.step_model.specs.declared.machine_function.MachineFunction.{MachineFunction};
-ghost use Rattle.step_model.specs.Facts.{IsSound, bares};
-ghost use Rattle.step_model.specs.Local.{Spot, is_listed, step_alone};
+ghost use Rattle.step_model.specs.Facts.{IsSound, bares, names_handlers};
+ghost use Rattle.step_model.specs.Listed.{GivesAlone, is_listed};
+ghost use Rattle.step_model.specs.Local.{Spot, is_inside, is_local, step_alone, step_has_room};
 ghost use Rattle.step_model.specs.MachineFunctions.{machine_function, machine_name};
 ghost use Rattle.step_model.specs.Marks.{marks, state_of};
 ghost use Rattle.step_model.specs.Moves.{Comes};
@@ -22,9 +28,9 @@ ghost use Rattle.step_model.specs.Order.{IsOrdered};
 ghost use Rattle.step_model.specs.Requests.{asked};
 ghost use Rattle.step_model.specs.Rooms.{HasRoom, HasRoomBroken};
 ghost use Rattle.step_model.specs.Rules.{InvokesNth, Rules};
+ghost use Rattle.step_model.specs.Shallow.{has_shallow_forms, layers_left};
 ghost use Rattle.step_model.specs.Stale.{IsStale};
 ghost use Rattle.step_model.specs.Step.{begun, step};
-ghost use Rattle.step_model.specs.Table.{alone};
 
 /// Each step is a list of moves.
 pub fn each_step_is_a_list_of_moves()
@@ -54,11 +60,13 @@ pub fn a_break_keeps_the_facts()
     ensures same_marks { (c : Context) (f : Focus) → marks (broken_at (may_open c) c f).0 ≡ marks c }
 {}
 
-/// A step that a thread makes by itself is the step of the table: it changes the term alone, and tells nothing. Each redex that a thread
-/// has to step by itself has a row that the term alone decides.
+/// A step that a thread makes by itself is the step of the table: it changes the term alone, and tells nothing. Each listed redex with a
+/// request around it is stepped so, where what its step makes stands within the limit of layers; and with 2,000 layers left it does, unless
+/// a form has more than 1,990 forms inside one another.
 pub fn a_local_step_needs_the_term_alone()
     ensures step { (rules : Rules) (n : Now) (s : Spot) → step_alone rules n.context n.redex ≡ Some s → step rules n ≡ puts (begun n) s.0 s.1 }
-    ensures listed { (rules : Rules) (c : Context) (f : Focus) → is_listed rules c f ≡ true → is_some (alone rules c f) ≡ true }
+    ensures listed { (rules : Rules) (current : List ℕ) (c : Context) (f : Focus) → GivesAlone rules → is_listed rules current c f ≡ true → is_inside c f ≡ true → step_has_room rules c f ≡ true → is_local rules c f ≡ true }
+    ensures room { (rules : Rules) (current : List ℕ) (c : Context) (f : Focus) → is_listed rules current c f ≡ true → 2000 ≤ layers_left c f → has_shallow_forms 1990 c f ≡ true → step_has_room rules c f ≡ true }
 {}
 
 /// Invoking a restart of a level that isn't the current one, or one that the level doesn't have, answers NIL and does nothing else.
@@ -69,4 +77,11 @@ pub fn a_stale_restart_does_nothing()
 /// Each function that the machine runs is found by its symbol, and by no other.
 pub fn each_machine_function_is_found()
     ensures { (s : Symbol) (f : MachineFunction) → (machine_function s ≡ Some f) ↔ (s ≡ cl (machine_name f)) }
+{}
+
+/// The handlers of a cluster come before those that are in force around it. While a handler runs, those are in force that were so around its
+/// cluster.
+pub fn the_handlers_in_force()
+    ensures cluster { (cluster : Cluster) (c : Context) → in_force (frame.On (plain.Handlers cluster) ∷ c) ≡ placed (length c + 1) 0 (handlers_of cluster) ++ in_force c }
+    ensures running { (p j : ℕ) (c : Context) → names_handlers p c ≡ true → in_force (frame.On (plain.Handling p j) ∷ c) ≡ in_force (outside p c) }
 {}

@@ -1,6 +1,7 @@
--- The handler that signalling finds (HyperSpec 9.1.4): from the newest cluster outwards, from left to right in a cluster, up to the
--- innermost level of the debugger. While a handler runs, only the handlers outside its cluster are in force.
-use Rattle.std.specs.Prelude.{ℕ, ◌+◌, ◌-◌, ◌==◌, Bool, false, if◌then◌else◌, nat_lt, List, [], ◌∷◌, length, drop, Option, Some, None}
+-- The handlers in force (HyperSpec 9.1.4): from the newest cluster outwards, from left to right in a cluster, up to the innermost level of
+-- the debugger. While a handler runs, only those are in force that stand outside its cluster. Signalling finds the first that takes the
+-- condition, and goes on behind one that declined.
+use Rattle.std.specs.Prelude.{ℕ, ◌+◌, ◌-◌, ◌==◌, Bool, false, ◌&&◌, if◌then◌else◌, nat_lt, List, [], ◌∷◌, ◌++◌, length, Option, Some, None, find}
 use Rattle.lisp_data.specs.declared.symbol.Symbol.{Symbol}
 use Rattle.lisp_data.specs.declared.type_id.TypeId.{TypeId}
 use Rattle.lisp_data.specs.declared.type_id.TypeId.TheVariants as type
@@ -21,10 +22,11 @@ pub data How : Type 0 where
   Function : Symbol → How
   Clause : How
 
--- a handler: the number of its layer, its place in the cluster from 0, and how it takes a condition
+-- a handler: the number of its layer, its place in the cluster from 0, the type of the conditions that it takes, and how it takes one
 pub record HandlerAt : Type 0 where
   pub layer : ℕ
   pub index : ℕ
+  pub kind : Option TypeId
   pub how : How
 
 -- the handlers of a cluster, each with the type of the conditions that it takes
@@ -46,52 +48,41 @@ handlers_of (Functions hs) = functions_of hs
 handlers_of (Clauses clauses) = clauses_of clauses
 handlers_of Ignoring = (Some type.Error, Clause) ∷ []
 
+-- these handlers of the layer of this number, the first of which has this place in its cluster
+abbrev pub placed : ℕ → ℕ → List (Option TypeId × How) → List HandlerAt
+placed n i [] = []
+placed n i (h ∷ hs) = (record { layer = n; index = i; kind = h.0; how = h.1 }) ∷ placed n (i + 1) hs
+
+-- those of a layer, where only layers of number k or less count
+abbrev pub of_layer : ℕ → ℕ → Cluster → List HandlerAt
+of_layer k n cluster = if nat_lt k n then [] else placed n 0 (handlers_of cluster)
+
+-- which layers count outside the mark of a running handler: those outside its cluster, where the mark itself counts
+abbrev pub past_mark : ℕ → ℕ → ℕ → ℕ
+past_mark k n p = if nat_lt k n then k else p - 1
+
+-- the handlers in force, where only layers of number k or less count
+abbrev pub in_force_from : ℕ → Context → List HandlerAt
+in_force_from k [] = []
+in_force_from k (frame.Sldb n condition again ∷ c) = []
+in_force_from k (frame.On (plain.Handlers cluster) ∷ c) = of_layer k (length c + 1) cluster ++ in_force_from k c
+in_force_from k (frame.On (plain.Handling p j) ∷ c) = in_force_from (past_mark k (length c + 1) p) c
+in_force_from k (_ ∷ c) = in_force_from k c
+
+-- the handlers in force
+abbrev pub in_force : Context → List HandlerAt
+in_force c = in_force_from (length c) c
+
+-- what stands behind the handler of this place in the cluster of the layer of this number
+abbrev pub behind : ℕ → ℕ → List HandlerAt → List HandlerAt
+behind n i [] = []
+behind n i (h ∷ hs) = if h.layer == n && h.index == i then hs else behind n i hs
+
 -- whether a handler of this type takes conditions of that one
 abbrev pub takes : TypeId → Option TypeId → Bool
 takes kind (Some k) = is_kind kind k
 takes kind None = false
 
--- the first of these handlers that takes conditions of a type; the first of them has this place in the cluster
-abbrev pub first_for : TypeId → ℕ → ℕ → List (Option TypeId × How) → Option HandlerAt
-first_for kind n i [] = None
-first_for kind n i (h ∷ hs) = if takes kind h.0 then Some (record { layer = n; index = i; how = h.1 }) else first_for kind n (i + 1) hs
-
--- how far a search has come: only layers of this number or less count, and in that one only the handlers from this place on
-pub record From : Type 0 where
-  pub layer : ℕ
-  pub index : ℕ
-
--- all layers of the context
-abbrev pub from_all : Context → From
-from_all c = record { layer = length c; index = 0 }
-
--- after a handler
-abbrev pub from_after : ℕ → ℕ → From
-from_after n j = record { layer = n; index = j + 1 }
-
--- outside a layer
-abbrev pub from_outside : ℕ → From
-from_outside n = record { layer = n - 1; index = 0 }
-
--- the first handler of a layer that counts
-abbrev pub in_layer : TypeId → From → ℕ → Cluster → Option HandlerAt
-in_layer kind from n cluster =
-    if nat_lt from.layer n then None
-    else if n == from.layer then first_for kind n from.index (drop from.index (handlers_of cluster))
-    else first_for kind n 0 (handlers_of cluster)
-
--- where the search goes on outside a running handler's mark, which counts where the mark itself does
-abbrev pub past_mark : From → ℕ → ℕ → From
-past_mark from n p = if nat_lt from.layer n then from else from_outside p
-
-abbrev pub or_further : Option HandlerAt → Option HandlerAt → Option HandlerAt
-or_further (Some h) further = Some h
-or_further None further = further
-
--- the next handler for a condition of this type
-abbrev pub find_handler : TypeId → From → Context → Option HandlerAt
-find_handler kind from [] = None
-find_handler kind from (frame.Sldb n condition again ∷ c) = None
-find_handler kind from (frame.On (plain.Handlers cluster) ∷ c) = or_further (in_layer kind from (length c + 1) cluster) (find_handler kind from c)
-find_handler kind from (frame.On (plain.Handling p j) ∷ c) = find_handler kind (past_mark from (length c + 1) p) c
-find_handler kind from (_ ∷ c) = find_handler kind from c
+-- the first of these handlers that takes conditions of a type
+abbrev pub find_handler : TypeId → List HandlerAt → Option HandlerAt
+find_handler kind hs = find (λ h. takes kind h.kind) hs
