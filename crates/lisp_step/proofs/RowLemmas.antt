@@ -28,7 +28,8 @@ use Rattle.step_model.specs.Requests as table
 use Rattle.step_model.specs.Rules.{Writing, Output, NewPackage}
 use Rattle.step_model.specs.Functions.{with_tree}
 use Rattle.step_model.specs.Act.{Goes, Changes}
-use Rattle.step_model.specs.Step.{act_if, announced, raises, step}
+use Rattle.step_model.specs.AsBuilt.{act_if, is_raise, limited, step_as_built}
+use Rattle.step_model.specs.Step.{announced}
 use Rattle.swank_rpc.specs.Calls.{is_served}
 use Rattle.swank_rpc.specs.Commands.{Given, Evaluates, Refuses, Replies, RepliesIn, command_of}
 use Rattle.swank_rpc.specs.Finishes.{Ended, finish_of, message_of}
@@ -52,6 +53,7 @@ use Rattle.term_model.specs.Term.{Context}
 use Rattle.lisp_step.specs.Machine.{now_of, stack_of}
 use Rattle.lisp_step.specs.Rows.{Done, answer_if, called_in, carried_or_left, does, ended_in, finished, formed, given, gives, gone, image_if, image_left, image_with, in_plain, leaves, mail_left, part_of, received, request_of, runs, stays, task_of, tree_in, tree_of, tree_with, waited}
 use Rattle.lisp_step.specs.Rows as row
+use Rattle.server_rules.specs.Built.{built}
 use Rattle.server_rules.proofs.SimpleLemmas.{abort_exit-simple, exits_to_top, messages-left, no_levels, simple_rest}
 use Rattle.lisp_step.proofs.LevelLemmas.{announced-none}
 use Rattle.lisp_step.proofs.StackLemmas.{given-levels, gives-given, goes-gone, gone-any, gone-levels, given-any, laid-levels, lays-laid, onto, value-levels}
@@ -96,7 +98,7 @@ messages-written (NewPackage name prompt ∷ ws) = ap (λ ms. message_of (NewPac
 module _ (t : ℕ) (mailbox : Mailbox) (image : ImageState) (b : Beside) where
   -- what a step reads whose redex is this
   abbrev reads : StackState → Focus → Now
-  reads s f = now_of t (with_redex f s) mailbox image b
+  reads s f = limited built (now_of t (with_redex f s) mailbox image b)
 
   -- every row that leaves
   left : (s : StackState) (f : Focus) → are_simple s.context ≡ true → after (announced (perform (reads s f) (Exits (abort_exit s.context)))) ≡ left_with (leaves s) mailbox image
@@ -109,9 +111,9 @@ module _ (t : ℕ) (mailbox : Mailbox) (image : ImageState) (b : Beside) where
 
   takes-mail : (s : StackState) (p : Pattern) (i : ℕ) (m : FromEmacs) → are_simple s.context ≡ true
       → takes_mail (took (reads s (focus.Wait p)) p i) i m ≡ onto (took (reads s (focus.Wait p)) p i) (received (with_redex (focus.Wait p) s) image i m)
-  takes-mail s p i (mail.Rex form «package» thread id) e = lays-laid (around (took (reads s (focus.Wait p)) p i) (frame.Rex i id form ∷ s.context)) _ _ e
-  takes-mail s p i (mail.ReturnString thread tag text) e = gives-given (took (reads s (focus.Wait p)) p i) _ e
-  takes-mail s p i (mail.Return thread tag form) e = gives-given (took (reads s (focus.Wait p)) p i) _ e
+  takes-mail s p i (mail.Rex form «package» thread id) e = lays-laid (around (took (reads s (focus.Wait p)) p i) (frame.Rex i id form ∷ s.context)) refl _ _ e
+  takes-mail s p i (mail.ReturnString thread tag text) e = gives-given (took (reads s (focus.Wait p)) p i) refl _ e
+  takes-mail s p i (mail.Return thread tag form) e = gives-given (took (reads s (focus.Wait p)) p i) refl _ e
   takes-mail s p i (mail.Interrupt thread) e = refl
   takes-mail s p i (mail.Unreadable packet text) e = refl
 
@@ -134,7 +136,7 @@ module _ (t : ℕ) (mailbox : Mailbox) (image : ImageState) (b : Beside) where
 
   -- what is done of this act, where it does not raise
   abbrev acts : Now → Act → After
-  acts n a = after (announced (perform n (act_if (true && not (raises a)) n a)))
+  acts n a = after (announced (perform n (act_if (true && not (is_raise a)) n a)))
 
   parses : (s : StackState) (f : Focus) (p : Placed) (ps : List Placed) (origin : Option Origin) (packages : List Package) (tree : Result Ast Value) → are_simple s.context ≡ true
       → acts (reads s f) (Changes (with_packages image packages) (with_tree (reads s f) tree (λ e. Goes (before_forms ps origin) (placed_found e (row_of e) origin p.at))))
@@ -143,7 +145,7 @@ module _ (t : ℕ) (mailbox : Mailbox) (image : ImageState) (b : Beside) where
       let n = record (reads s f) { image = with_packages image packages } in
       let found = placed_found a (row_of a) origin p.at in
       goes-on (act.goes n (before_forms ps origin) found) n (gone (with_redex f s) (before_forms ps origin) found) (gone s (before_forms ps origin) found)
-      (goes-gone n (before_forms ps origin) found e) (gone-any s f (before_forms ps origin) found) (gone-levels s (before_forms ps origin) found ∙ no_levels s.context e)
+      (goes-gone n refl (before_forms ps origin) found e) (gone-any s f (before_forms ps origin) found) (gone-levels s (before_forms ps origin) found ∙ no_levels s.context e)
   parses s f p ps origin packages (Err bad) e = left s f e
 
   names : (s : StackState) (f : Focus) (p : Placed) (ps : List Placed) (origin : Option Origin) (found : Valued) → are_simple s.context ≡ true
@@ -152,34 +154,34 @@ module _ (t : ℕ) (mailbox : Mailbox) (image : ImageState) (b : Beside) where
   names s f p ps origin (Err why) e = left s f e
 
   forms : (s : StackState) (fs : List Placed) (origin : Option Origin) → are_simple s.context ≡ true
-      → after (step rules (reads s (focus.Forms fs origin))) ≡ left_with (runs image s fs origin) mailbox (row.image_run image s.context fs)
+      → after (step_as_built rules.built rules (reads s (focus.Forms fs origin))) ≡ left_with (runs image s fs origin) mailbox (row.image_run image s.context fs)
   forms s [] origin e =
       let f = focus.Forms [] origin in
       goes-on (act.goes (reads s f) [] (Already nil)) (reads s f) (gone (with_redex f s) [] (Already nil)) (gone s [] (Already nil))
-      (goes-gone (reads s f) [] (Already nil) e) (gone-any s f [] (Already nil)) (gone-levels s [] (Already nil) ∙ no_levels s.context e)
+      (goes-gone (reads s f) refl [] (Already nil) e) (gone-any s f [] (Already nil)) (gone-levels s [] (Already nil) ∙ no_levels s.context e)
   forms s (p ∷ ps) origin e =
       names s (focus.Forms (p ∷ ps) origin) p ps origin (in_named image.packages (current_package image s.context) (λ i. valued i p.form image.packages)) e
 
   -- ---- requests
 
   carries : (s : StackState) (served : Bool) (g : Given) → are_simple s.context ≡ true
-      → after (announced (perform (reads s focus.Rpc) (act_if (served && not (raises (commanded (reads s focus.Rpc) (command_of b.inspected g)))) (reads s focus.Rpc) (commanded (reads s focus.Rpc) (command_of b.inspected g)))))
+      → after (announced (perform (reads s focus.Rpc) (act_if (served && not (is_raise (commanded (reads s focus.Rpc) (command_of b.inspected g)))) (reads s focus.Rpc) (commanded (reads s focus.Rpc) (command_of b.inspected g)))))
       ≡ left_with (carried_or_left s (answer_if served g)) mailbox (image_if served image g)
   carries s false g e = left s focus.Rpc e
   carries s true (Replies reply) e =
       let n = reads s focus.Rpc in
       let u = with_redex (focus.Given (outcome.Reply reply)) s in
-      goes-on (act.gives n (outcome.Reply reply)) n u u (gives-given n (outcome.Reply reply) e) refl (no_levels s.context e)
+      goes-on (act.gives n (outcome.Reply reply)) n u u (gives-given n refl (outcome.Reply reply) e) refl (no_levels s.context e)
   carries s true (RepliesIn global reply) e =
       let n = record (reads s focus.Rpc) { image = row.image_if true image (RepliesIn global reply) } in
       let u = with_redex (focus.Given (outcome.Reply reply)) s in
-      goes-on (act.gives n (outcome.Reply reply)) n u u (gives-given n (outcome.Reply reply) e) refl (no_levels s.context e)
+      goes-on (act.gives n (outcome.Reply reply)) n u u (gives-given n refl (outcome.Reply reply) e) refl (no_levels s.context e)
   carries s true (Refuses condition) e = left s focus.Rpc e
   carries s true (Evaluates fs kept) e =
       let n = reads s focus.Rpc in
       let ps = plain.Answer kept ∷ [] in
       let found = Here (focus.Forms fs None) in
-      goes-on (act.lays n ps found) n (row.laid s ps found) (row.laid s ps found) (lays-laid n ps found e) refl (laid-levels s ps found ∙ no_levels s.context e)
+      goes-on (act.lays n ps found) n (row.laid s ps found) (row.laid s ps found) (lays-laid n refl ps found e) refl (laid-levels s ps found ∙ no_levels s.context e)
 
   -- ---- outcomes
 
@@ -190,7 +192,7 @@ module _ (t : ℕ) (mailbox : Mailbox) (image : ImageState) (b : Beside) where
   finishes s kept c v (Ok e) simple =
       let n = tells (reads (with_context c s) (focus.Given (outcome.Value v))) (map act.written e.0) in
       let u = with_redex (focus.Given (outcome.Reply e.1)) (with_context c s) in
-      goes-on (act.gives n (outcome.Reply e.1)) n u u (gives-given n (outcome.Reply e.1) simple) refl (no_levels c simple)
+      goes-on (act.gives n (outcome.Reply e.1)) n u u (gives-given n refl (outcome.Reply e.1) simple) refl (no_levels c simple)
       ∙ ap (λ ms. left_with (record { stack = u; messages = ms; over = false }) mailbox image) (messages-written e.0 ∙ sym (append-nil (map message_of e.0)))
   finishes s kept c v (Err condition) simple = left (with_context (frame.On (plain.Answer kept) ∷ c) s) (focus.Given (outcome.Value v)) simple
 
@@ -200,16 +202,16 @@ module _ (t : ℕ) (mailbox : Mailbox) (image : ImageState) (b : Beside) where
   through s p c o e =
       let n = reads (with_context c s) (focus.Given o) in
       goes-on (act.gives n o) n (given (with_redex (focus.Given o) (with_context c s)) o) (given (with_context c s) o)
-      (gives-given n o e) (given-any (with_context c s) (focus.Given o) o) (given-levels (with_context c s) o ∙ no_levels c e)
+      (gives-given n refl o e) (given-any (with_context c s) (focus.Given o) o) (given-levels (with_context c s) o ∙ no_levels c e)
 
   in-plain : (s : StackState) (p : Plain) (c : Context) (o : Outcome) → are_simple c ≡ true
-      → after (step rules (reads (with_context (frame.On p ∷ c) s) (focus.Given o))) ≡ left_with (in_plain image (with_context c s) (part_of p) o) mailbox image
+      → after (step_as_built rules.built rules (reads (with_context (frame.On p ∷ c) s) (focus.Given o))) ≡ left_with (in_plain image (with_context c s) (part_of p) o) mailbox image
   in-plain s (plain.Before f) c o e = settled (reads (with_context c s) f) (no_levels c e)
   in-plain s (plain.Answer kept) c (outcome.Value v) e = finishes s kept c v (ended_in image c kept v) e
   in-plain s p c o e = through s p c o e
 
   outcomes : (s : StackState) (c : Context) (o : Outcome) → are_simple c ≡ true
-      → after (step rules (reads (with_context c s) (focus.Given o))) ≡ left_with (gives image (with_context c s) o) mailbox image
+      → after (step_as_built rules.built rules (reads (with_context c s) (focus.Given o))) ≡ left_with (gives image (with_context c s) o) mailbox image
   outcomes s [] o e = left (with_context [] s) (focus.Given o) e
   outcomes s (frame.On p ∷ c) o e = in-plain s p c o (simple_rest (frame.On p) c e)
   outcomes s (frame.Rex i id form ∷ c) (outcome.Reply r) e =
@@ -225,7 +227,7 @@ module _ (t : ℕ) (mailbox : Mailbox) (image : ImageState) (b : Beside) where
 
   -- a step is what its redex asks for
   pub stepped : (s : StackState) (f : Focus) → are_simple s.context ≡ true
-      → after (step rules (reads s f)) ≡ left_with (does image mailbox s (task_of f)) (mail_left mailbox (task_of f)) (image_left image s.context (task_of f))
+      → after (step_as_built rules.built rules (reads s f)) ≡ left_with (does image mailbox s (task_of f)) (mail_left mailbox (task_of f)) (image_left image s.context (task_of f))
   stepped s (focus.Wait p) e = waits s p (first_accepted p mailbox) e refl
   stepped s (focus.Forms fs origin) e = forms s fs origin e
   stepped s (focus.Given o) e = outcomes s s.context o e

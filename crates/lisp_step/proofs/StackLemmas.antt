@@ -31,21 +31,21 @@ onto n s = record n { context = s.context; redex = s.redex; serial = s.serial }
 
 -- ---- laying
 
-laid-in : (n : Now) (c : Context) (r : Option Focus)
+laid-in : (n : Now) → n.most ≡ 0 → (c : Context) (r : Option Focus)
     → laid (around n c) r ≡ onto n (record { context = c; redex = unwrap_or r focus.Abort; serial = n.serial })
-laid-in n c (Some f) = refl
-laid-in n c None = exhausted-leaves (around n c)
+laid-in n z c (Some f) = refl
+laid-in n z c None = exhausted-leaves (around n c) z
 
-lays-if : (n : Now) (ps : List Plain) (found : Found) (within : Bool) → are_simple n.context ≡ true
+lays-if : (n : Now) → n.most ≡ 0 → (ps : List Plain) (found : Found) (within : Bool) → are_simple n.context ≡ true
     → lays_if within n ps found ≡ onto n (laid_if within (with_redex focus.Abort (stack_of n)) ps found)
-lays-if n ps found true e =
+lays-if n z ps found true e =
     let w = wrap (room n.context) n.context ps found in
-    laid-in n w.around w.redex
-lays-if n ps found false e =
-    ap (λ (c : Context). exhausted (around n c)) (cut_off-simple n.context e) ∙ exhausted-leaves n
+    laid-in n z w.around w.redex
+lays-if n z ps found false e =
+    ap (λ (c : Context). exhausted (around n c)) (cut_off-simple n.context e) ∙ exhausted-leaves n z
 
-pub lays-laid : (n : Now) (ps : List Plain) (found : Found) → are_simple n.context ≡ true → lays n ps found ≡ onto n (row.laid (stack_of n) ps found)
-lays-laid n ps found e = lays-if n ps found (is_within n.context) e
+pub lays-laid : (n : Now) → n.most ≡ 0 → (ps : List Plain) (found : Found) → are_simple n.context ≡ true → lays n ps found ≡ onto n (row.laid (stack_of n) ps found)
+lays-laid n z ps found e = lays-if n z ps found (is_within n.context) e
 
 laid-levels-if : (s : StackState) (ps : List Plain) (found : Found) (within : Bool) → levels (laid_if within s ps found).context ≡ levels s.context
 laid-levels-if s ps found true = wrap-levels (room s.context) s.context ps found
@@ -60,25 +60,25 @@ laid-levels s ps found = laid-levels-if (with_redex focus.Abort s) ps found (is_
 abbrev at : Now → Context → StackState
 at n c = record { context = c; redex = n.redex; serial = n.serial }
 
-given-found : (n : Now) (p : Plain) (c : Context) (v : Value) (found : Option Found) → are_simple c ≡ true
+given-found : (n : Now) → n.most ≡ 0 → (p : Plain) (c : Context) (v : Value) (found : Option Found) → are_simple c ≡ true
     → act.given n p c v found ≡ onto n (resumed_by found v (at n (frame.On p ∷ c)))
-given-found n p c v (Some found) e = lays-laid (around n c) [] found e
-given-found n p c v None e = refl
+given-found n z p c v (Some found) e = lays-laid (around n c) z [] found e
+given-found n z p c v None e = refl
 
-gives-in : (n : Now) (c : Context) (o : Outcome) → are_simple c ≡ true → act.gives_in n c o ≡ onto n (given (at n c) o)
-gives-in n [] (outcome.Value v) e = refl
-gives-in n [] (outcome.Reply r) e = refl
-gives-in n (frame.On p ∷ c) (outcome.Value v) e = given-found n p c v (resumed p v) (simple_rest (frame.On p) c e)
-gives-in n (frame.On p ∷ c) (outcome.Reply r) e = refl
-gives-in n (frame.Rex i id form ∷ c) (outcome.Value v) e = refl
-gives-in n (frame.Rex i id form ∷ c) (outcome.Reply r) e = refl
-gives-in n (frame.Protect k cleanup ∷ c) o e = absurd (cc)
-gives-in n (frame.Cleanup k kept ∷ c) o e = absurd (cc)
-gives-in n (frame.Sldb k condition told ∷ c) o e = absurd (cc)
-gives-in n (frame.Ask kind tag ∷ c) o e = absurd (cc)
+gives-in : (n : Now) → n.most ≡ 0 → (c : Context) (o : Outcome) → are_simple c ≡ true → act.gives_in n c o ≡ onto n (given (at n c) o)
+gives-in n z [] (outcome.Value v) e = refl
+gives-in n z [] (outcome.Reply r) e = refl
+gives-in n z (frame.On p ∷ c) (outcome.Value v) e = given-found n z p c v (resumed p v) (simple_rest (frame.On p) c e)
+gives-in n z (frame.On p ∷ c) (outcome.Reply r) e = refl
+gives-in n z (frame.Rex i id form ∷ c) (outcome.Value v) e = refl
+gives-in n z (frame.Rex i id form ∷ c) (outcome.Reply r) e = refl
+gives-in n z (frame.Protect k cleanup ∷ c) o e = absurd (cc)
+gives-in n z (frame.Cleanup k kept ∷ c) o e = absurd (cc)
+gives-in n z (frame.Sldb k condition told ∷ c) o e = absurd (cc)
+gives-in n z (frame.Ask kind tag ∷ c) o e = absurd (cc)
 
-pub gives-given : (n : Now) (o : Outcome) → are_simple n.context ≡ true → act.gives n o ≡ onto n (given (stack_of n) o)
-gives-given n o e = gives-in n n.context o e
+pub gives-given : (n : Now) → n.most ≡ 0 → (o : Outcome) → are_simple n.context ≡ true → act.gives n o ≡ onto n (given (stack_of n) o)
+gives-given n z o e = gives-in n z n.context o e
 
 resumed-levels : (p : Plain) (c : Context) (f : Focus) (k : ℕ) (v : Value) (found : Option Found)
     → levels (resumed_by found v (record { context = frame.On p ∷ c; redex = f; serial = k })).context ≡ levels c
@@ -103,11 +103,11 @@ given-levels s (outcome.Reply r) = refl
 
 -- ---- going
 
-pub goes-gone : (n : Now) (ps : List Plain) (found : Found) → are_simple n.context ≡ true → act.goes n ps found ≡ onto n (gone (stack_of n) ps found)
-goes-gone n [] (Already v) e = gives-given n (outcome.Value v) e
-goes-gone n [] (Here f) e = lays-laid n [] (Here f) e
-goes-gone n [] (Inside p a) e = lays-laid n [] (Inside p a) e
-goes-gone n (p ∷ ps) found e = lays-laid n (p ∷ ps) found e
+pub goes-gone : (n : Now) → n.most ≡ 0 → (ps : List Plain) (found : Found) → are_simple n.context ≡ true → act.goes n ps found ≡ onto n (gone (stack_of n) ps found)
+goes-gone n z [] (Already v) e = gives-given n z (outcome.Value v) e
+goes-gone n z [] (Here f) e = lays-laid n z [] (Here f) e
+goes-gone n z [] (Inside p a) e = lays-laid n z [] (Inside p a) e
+goes-gone n z (p ∷ ps) found e = lays-laid n z (p ∷ ps) found e
 
 pub gone-levels : (s : StackState) (ps : List Plain) (found : Found) → levels (gone s ps found).context ≡ levels s.context
 gone-levels s [] (Already v) = value-levels s v

@@ -8,7 +8,7 @@ use Rattle.server_rules.specs.Rules.{rules}
 use Rattle.server_rules.specs.Simple.{are_simple}
 use Rattle.step_model.specs.Image.{ImageState}
 use Rattle.step_model.specs.Now.{Mailbox}
-use Rattle.step_model.specs.Step.{step}
+use Rattle.step_model.specs.AsBuilt.{step_as_built}
 use Rattle.term_model.specs.declared.focus.Focus.{Focus}
 use Rattle.term_model.specs.declared.focus.Focus.TheVariants as focus
 use Rattle.term_model.specs.Label.{messages_in}
@@ -26,22 +26,22 @@ module _ (t : ℕ) (s : StackState) (mailbox : Mailbox) (image : ImageState) (si
   abbrev pub done : Done
   done = does image mailbox (with_redex focus.Abort s) (task_of s.redex)
 
-  whole : (b : Beside) → after (step rules (now_of t s mailbox image b)) ≡ left_with done (mail_left mailbox (task_of s.redex)) (image_left image s.context (task_of s.redex))
+  whole : (b : Beside) → after (step_as_built rules.built rules (now_of t s mailbox image b)) ≡ left_with done (mail_left mailbox (task_of s.redex)) (image_left image s.context (task_of s.redex))
   whole b = stepped t mailbox image b (with_redex focus.Abort s) s.redex simple
 
-  pub stack-after : (b : Beside) → stack_of (step rules (now_of t s mailbox image b)) ≡ done.stack
+  pub stack-after : (b : Beside) → stack_of (step_as_built rules.built rules (now_of t s mailbox image b)) ≡ done.stack
   stack-after b = ap (λ (a : After). a.done.stack) (whole b)
 
-  pub messages-after : (b : Beside) → messages_in (step rules (now_of t s mailbox image b)).labels ≡ done.messages
+  pub messages-after : (b : Beside) → messages_in (step_as_built rules.built rules (now_of t s mailbox image b)).labels ≡ done.messages
   messages-after b = ap (λ (a : After). a.done.messages) (whole b)
 
-  pub over-after : (b : Beside) → (step rules (now_of t s mailbox image b)).over ≡ done.over
+  pub over-after : (b : Beside) → (step_as_built rules.built rules (now_of t s mailbox image b)).over ≡ done.over
   over-after b = ap (λ (a : After). a.done.over) (whole b)
 
-  pub mailbox-after : (b : Beside) → (step rules (now_of t s mailbox image b)).mailbox ≡ mail_left mailbox (task_of s.redex)
+  pub mailbox-after : (b : Beside) → (step_as_built rules.built rules (now_of t s mailbox image b)).mailbox ≡ mail_left mailbox (task_of s.redex)
   mailbox-after b = ap (λ (a : After). a.mailbox) (whole b)
 
-  pub image-after : (b : Beside) → (step rules (now_of t s mailbox image b)).image ≡ image_left image s.context (task_of s.redex)
+  pub image-after : (b : Beside) → (step_as_built rules.built rules (now_of t s mailbox image b)).image ≡ image_left image s.context (task_of s.redex)
   image-after b = ap (λ (a : After). a.image) (whole b)
 
   -- the redex was taken off, and asks for this
@@ -54,29 +54,29 @@ module _ (t : ℕ) (s : StackState) (mailbox : Mailbox) (image : ImageState) (si
   same task redex now k = ap (λ (x : StackState). does image mailbox x task) k.rest ∙ ap (λ (x : Task). does image mailbox (with_redex focus.Abort s) x) (k.asks ∙ ap task_of k.old)
 
   pub stack-clause : {A E : Type 0} (r : Result A E) (task : Task) (redex : Focus) (now new : StackState) → Taken task redex now
-      → OnOk r (new ≡ (does image mailbox now task).stack) → OnOk r ((b : Beside) → new ≡ stack_of (step rules (now_of t s mailbox image b)))
+      → OnOk r (new ≡ (does image mailbox now task).stack) → OnOk r ((b : Beside) → new ≡ stack_of (step_as_built rules.built rules (now_of t s mailbox image b)))
   stack-clause (Ok a) task redex now new k e = λ b. e ∙ ap (λ (d : Done). d.stack) (same task redex now k) ∙ sym (stack-after b)
   stack-clause (Err x) task redex now new k e = tt
 
   pub outs-clause : {A E : Type 0} (r : Result A E) (task : Task) (redex : Focus) (now : StackState) (before after : List ToEmacs) → Taken task redex now
       → OnOk r (after ≡ before ++ (does image mailbox now task).messages)
-      → OnOk r ((b : Beside) → after ≡ before ++ messages_in (step rules (now_of t s mailbox image b)).labels)
+      → OnOk r ((b : Beside) → after ≡ before ++ messages_in (step_as_built rules.built rules (now_of t s mailbox image b)).labels)
   outs-clause (Ok a) task redex now before after k e =
       λ b. e ∙ ap (λ ms. before ++ ms) (ap (λ (d : Done). d.messages) (same task redex now k) ∙ sym (messages-after b))
   outs-clause (Err x) task redex now before after k e = tt
 
   pub over-clause : {E : Type 0} (r : Result Bool E) (task : Task) (redex : Focus) (now : StackState) → Taken task redex now
-      → IfOk r (λ over. over ≡ (does image mailbox now task).over) → IfOk r (λ over. (b : Beside) → over ≡ (step rules (now_of t s mailbox image b)).over)
+      → IfOk r (λ over. over ≡ (does image mailbox now task).over) → IfOk r (λ over. (b : Beside) → over ≡ (step_as_built rules.built rules (now_of t s mailbox image b)).over)
   over-clause (Ok over) task redex now k e = λ b. e ∙ ap (λ (d : Done). d.over) (same task redex now k) ∙ sym (over-after b)
   over-clause (Err x) task redex now k e = tt
 
   pub mailbox-clause : {A E : Type 0} (r : Result A E) (task : Task) (redex : Focus) (now : StackState) (new : Mailbox) → Taken task redex now
-      → OnOk r (new ≡ mail_left mailbox task) → OnOk r ((b : Beside) → new ≡ (step rules (now_of t s mailbox image b)).mailbox)
+      → OnOk r (new ≡ mail_left mailbox task) → OnOk r ((b : Beside) → new ≡ (step_as_built rules.built rules (now_of t s mailbox image b)).mailbox)
   mailbox-clause (Ok a) task redex now new k e = λ b. e ∙ ap (mail_left mailbox) (k.asks ∙ ap task_of k.old) ∙ sym (mailbox-after b)
   mailbox-clause (Err x) task redex now new k e = tt
 
   pub image-clause : {A E : Type 0} (r : Result A E) (task : Task) (redex : Focus) (now : StackState) (new : ImageState) → Taken task redex now
-      → OnOk r (new ≡ image_left image now.context task) → OnOk r ((b : Beside) → new ≡ (step rules (now_of t s mailbox image b)).image)
+      → OnOk r (new ≡ image_left image now.context task) → OnOk r ((b : Beside) → new ≡ (step_as_built rules.built rules (now_of t s mailbox image b)).image)
   image-clause (Ok a) task redex now new k e =
       λ b. e ∙ ap (λ (x : StackState). image_left image x.context task) k.rest ∙ ap (image_left image s.context) (k.asks ∙ ap task_of k.old) ∙ sym (image-after b)
   image-clause (Err x) task redex now new k e = tt

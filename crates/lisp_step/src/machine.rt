@@ -5,7 +5,7 @@ ghost use Rattle.lisp_step.specs.Rows.{does, image_left, mail_left, task_of};
 ghost use Rattle.server_rules.specs.Beside.{Beside};
 ghost use Rattle.server_rules.specs.Rules.{rules};
 ghost use Rattle.server_rules.specs.Simple.{are_simple};
-ghost use Rattle.step_model.specs.Step.{step};
+ghost use Rattle.step_model.specs.AsBuilt.{step_as_built};
 ghost use Rattle.term_model.specs.Label.{messages_in};
 ghost use Rattle.term_model.specs.declared.focus.Focus.TheVariants as focus;
 
@@ -92,11 +92,11 @@ impl Machine {
         requires simple { are_simple self.old.stack.context ≡ true }
         ensures thread { self.new.thread ≡ self.old.thread }
         ensures simple { OnOk result (are_simple self.new.stack.context ≡ true) }
-        ensures stack { OnOk result ((b : Beside) → self.new.stack ≡ stack_of (step rules (now_of self.old.thread self.old.stack mailbox.old image.old b))) }
-        ensures mailbox { OnOk result ((b : Beside) → mailbox.new ≡ (step rules (now_of self.old.thread self.old.stack mailbox.old image.old b)).mailbox) }
-        ensures image { OnOk result ((b : Beside) → image.new ≡ (step rules (now_of self.old.thread self.old.stack mailbox.old image.old b)).image) }
-        ensures outs { OnOk result ((b : Beside) → outs.new ≡ outs.old ++ messages_in (step rules (now_of self.old.thread self.old.stack mailbox.old image.old b)).labels) }
-        ensures over { IfOk result (λ over. (b : Beside) → over ≡ (step rules (now_of self.old.thread self.old.stack mailbox.old image.old b)).over) }
+        ensures stack { OnOk result ((b : Beside) → self.new.stack ≡ stack_of (step_as_built rules.built rules (now_of self.old.thread self.old.stack mailbox.old image.old b))) }
+        ensures mailbox { OnOk result ((b : Beside) → mailbox.new ≡ (step_as_built rules.built rules (now_of self.old.thread self.old.stack mailbox.old image.old b)).mailbox) }
+        ensures image { OnOk result ((b : Beside) → image.new ≡ (step_as_built rules.built rules (now_of self.old.thread self.old.stack mailbox.old image.old b)).image) }
+        ensures outs { OnOk result ((b : Beside) → outs.new ≡ outs.old ++ messages_in (step_as_built rules.built rules (now_of self.old.thread self.old.stack mailbox.old image.old b)).labels) }
+        ensures over { IfOk result (λ over. (b : Beside) → over ≡ (step_as_built rules.built rules (now_of self.old.thread self.old.stack mailbox.old image.old b)).over) }
     {
         let redex = self.stack.replace_focus(Focus::Abort);
         perform(alloc, task_of(redex), &mut self.stack, image, mailbox, outs)

@@ -16,7 +16,7 @@ use Rattle.term_model.specs.Label.{Label}
 use Rattle.term_model.specs.Term.{At, Context, plug, split, split-plug}
 use Rattle.step_model.specs.Image.{ImageState}
 use Rattle.step_model.specs.Now.{Mailbox, Now}
-use Rattle.step_model.specs.Step.{step}
+use Rattle.step_model.specs.AsBuilt.{limited, step_as_built}
 use Rattle.session_model.specs.declared.event.Entry.{Entry}
 use Rattle.session_model.specs.declared.event.Event.{Event}
 use Rattle.session_model.specs.declared.event.Event.TheVariants.{Arrive, End, Lend, Burst, Drain}
@@ -28,6 +28,7 @@ use Rattle.session_model.specs.World.{Happened, Thread, World, fresh, repl, sile
 use Rattle.session_laws.proofs.EachThread.{Holds, add_one, becomes, set_one}
 use Rattle.session_laws.proofs.EachThread as threads
 use Rattle.session_laws.proofs.Threads.{found}
+use Rattle.server_rules.specs.Built.{built}
 use Rattle.server_rules.specs.Rules.{rules}
 use Rattle.server_rules.proofs.SimpleLemmas.{broken-leaves}
 use Rattle.server_laws.specs.Small.{AreSmall, FitsPacket, HasShortNames, IsSmall}
@@ -143,14 +144,14 @@ module _ (Small : Type 0) where
   plugged : (c : Context) (f : Focus) → LayersFit Small c → RedexFits f → TermFits (split (plug c (At f)))
   plugged c f h k = subst TermFits (sym (split-plug c f)) (h, k)
 
-  broken_fits : (s : Context × Focus) → LayersFit Small s.0 → TermFits (broken_at (may_open s.0) s.0 s.1)
+  broken_fits : (s : Context × Focus) → LayersFit Small s.0 → TermFits (broken_at (may_open built.levels s.0) s.0 s.1)
   broken_fits s h = subst TermFits (sym (broken-leaves s.0 s.1)) (h, tt)
 
-  interrupted_fits : (n : ℕ) (thread : Thread) → ThreadFits thread → ThreadFits (interrupted n thread)
+  interrupted_fits : (n : ℕ) (thread : Thread) → ThreadFits thread → ThreadFits (interrupted built.levels n thread)
   interrupted_fits zero thread h = h
   interrupted_fits (suc n) thread h =
       let s = split thread.term in
-      let b = broken_at (may_open s.0) s.0 s.1 in
+      let b = broken_at (may_open built.levels s.0) s.0 s.1 in
       let fits = broken_fits s h.0.0 in
       (plugged b.0 b.1 fits.0 fits.1, h.1)
 
@@ -159,10 +160,10 @@ module _ (Small : Type 0) where
   broke_fits t (suc n) true = λ s. tt
   broke_fits t (suc n) false = λ s. tt
 
-  lends_fit : (w : World) (seat t : ℕ) (o : Option Thread) → thread_at w t ≡ o → WorldFits w → HappenedFits (lends_thread w seat t o)
+  lends_fit : (w : World) (seat t : ℕ) (o : Option Thread) → thread_at w t ≡ o → WorldFits w → HappenedFits (lends_thread built.levels w seat t o)
   lends_fit w seat t (Some thread) e h =
-      let now = record (interrupted thread.interrupts thread) { lent = Some seat } in
-      tells_fits (with_thread w t (Some now)) _ (becomes_fits w t thread now e (interrupted_fits thread.interrupts thread) h) (broke_fits t thread.interrupts (may_open (split thread.term).0))
+      let now = record (interrupted built.levels thread.interrupts thread) { lent = Some seat } in
+      tells_fits (with_thread w t (Some now)) _ (becomes_fits w t thread now e (interrupted_fits thread.interrupts thread) h) (broke_fits t thread.interrupts (may_open built.levels (split thread.term).0))
   lends_fit w seat t None e h = silent_fits w h
 
   -- ---- steps
@@ -194,12 +195,12 @@ module _ (Small : Type 0) where
   thread_fits : (w : World) (t : ℕ) (thread : Thread) → thread_at w t ≡ Some thread → WorldFits w → ThreadFits thread
   thread_fits w t thread e h = subst (Holds ThreadFits) (found w.threads t thread e) (h.threads t)
 
-  now_fits : (w : World) (t : ℕ) (thread : Thread) → thread_at w t ≡ Some thread → WorldFits w → Fits Small (now_of w t thread)
-  now_fits w t thread e h = let k = thread_fits w t thread e h in record { names = h.names; layers = k.0.0; redex = k.0.1; mail = k.1; labels = λ s. tt }
+  now_fits : (w : World) (t : ℕ) (thread : Thread) → thread_at w t ≡ Some thread → WorldFits w → Fits Small (limited built (now_of w t thread))
+  now_fits w t thread e h = let k = thread_fits w t thread e h in record { names = h.names; closed = refl; layers = k.0.0; redex = k.0.1; mail = k.1; labels = λ s. tt }
 
   one_step : (w : World) (t : ℕ) (o : Option Thread) → thread_at w t ≡ o → WorldFits w → HappenedFits (step_of rules w t o)
   one_step w t (Some thread) e h =
-      let n = step rules (now_of w t thread) in
+      let n = step_as_built rules.built rules (now_of w t thread) in
       settles_fit w t thread n (is_over t n) e (step_fits Small (now_of w t thread) (now_fits w t thread e h)) h
   one_step w t None e h = silent_fits w h
 

@@ -44,12 +44,14 @@ use Rattle.step_model.specs.Now.{Mailbox, Now, around, puts, tells}
 use Rattle.step_model.specs.Perform.{answer_in, exits, given, gives, gives_in, goes, lays, outcome_of, outward, package_bound, passes, perform, takes, takes_mail, took, written}
 use Rattle.step_model.specs.Requests.{asked, before_forms, commanded, finished, forms_row, placed_found, resolved}
 use Rattle.step_model.specs.Rules.{Writing, Output, NewPackage}
-use Rattle.step_model.specs.Step.{begun, is_built, is_form_built, is_row_built, raises, step}
+use Rattle.step_model.specs.AsBuilt.{is_built, is_raise, is_row_built, limited, step_as_built}
+use Rattle.step_model.specs.Step.{begun}
 use Rattle.step_model.specs.Table.{given_row, row}
 use Rattle.swank_rpc.specs.Commands.{Given, Replies, RepliesIn, Refuses, Evaluates, called, command_of}
 use Rattle.swank_rpc.specs.Finishes.{Ended, ended, finish_of}
 use Rattle.server_rules.specs.Going.{entered, laid_in}
 use Rattle.server_rules.specs.Leaving.{left_all}
+use Rattle.server_rules.specs.Built.{built, has_row}
 use Rattle.server_rules.specs.Rules.{rules}
 use Rattle.server_rules.proofs.GoingSimple.{IsSimpleFound, lays-simple, resumed_simple}
 use Rattle.server_rules.proofs.SimpleLemmas.{abort_exit-simple, exits_to_top}
@@ -83,6 +85,7 @@ module _ (Small : Type 0) where
   -- what holds of a thread before and after a step
   pub record Fits (n : Now) : Type 0 where
     pub names : HasShortNames n.image
+    pub closed : n.most ≡ 0
     pub layers : LayersFit Small n.context
     pub redex : RedexFits n.redex
     pub mail : MailFits n.mailbox
@@ -105,10 +108,10 @@ module _ (Small : Type 0) where
 
   -- a redex in other layers, with the rest as it is
   put_fits : (n : Now) (c : Context) (f : Focus) → Fits n → LayersFit Small c → RedexFits f → Fits (puts n c f)
-  put_fits n c f h g k = record { names = h.names; layers = g; redex = k; mail = h.mail; labels = h.labels }
+  put_fits n c f h g k = record { names = h.names; closed = h.closed; layers = g; redex = k; mail = h.mail; labels = h.labels }
 
   around_fits : (n : Now) (c : Context) → Fits n → LayersFit Small c → Fits (around n c)
-  around_fits n c h g = record { names = h.names; layers = g; redex = h.redex; mail = h.mail; labels = h.labels }
+  around_fits n c h g = record { names = h.names; closed = h.closed; layers = g; redex = h.redex; mail = h.mail; labels = h.labels }
 
   laid_fits : (n : Now) (c : Context) (o : Option Focus) → Fits n → EnteredFits Small (record { around = c; redex = o }) → Fits (laid_in n (record { around = c; redex = o }))
   laid_fits n c (Some f) h e = put_fits n c f h e.around e.redex
@@ -117,7 +120,7 @@ module _ (Small : Type 0) where
   lays_fits : (n : Now) (ps : List Plain) (found : Found) → Fits n → PlainsFit ps → IsSimpleFound found → Fits (lays n ps found)
   lays_fits n ps found h g k =
       let e = entered (is_within n.context) n.context ps found in
-      subst Fits (sym (lays-simple n ps found (layers_simple Small n.context h.layers))) (laid_fits n e.around e.redex h (entered_fits Small (is_within n.context) n.context ps found h.layers g k))
+      subst Fits (sym (lays-simple n h.closed ps found (layers_simple Small n.context h.layers))) (laid_fits n e.around e.redex h (entered_fits Small (is_within n.context) n.context ps found h.layers g k))
 
   given_fits : (n : Now) (p : Plain) (c : Context) (v : Value) (o : Option Found) → resumed p v ≡ o → Fits n → LayersFit Small (frame.On p ∷ c) → Fits (given n p c v o)
   given_fits n p c v None e h g = put_fits n (frame.On p ∷ c) (focus.Given (outcome.Value v)) h g tt
@@ -150,7 +153,7 @@ module _ (Small : Type 0) where
   passes_fits n [] o h g k = put_fits n [] (focus.Given o) h g k
   passes_fits n (frame.On p ∷ c) o h g k = put_fits n (frame.On p ∷ c) (focus.Given o) h g k
   passes_fits n (frame.Rex i id form ∷ c) (outcome.Reply r) h g k =
-      record { names = h.names; layers = g.1; redex = tt; mail = h.mail; labels = fit-append n.labels _ h.labels (λ s. (reply_fits id r (g.0 s) k, tt)) }
+      record { names = h.names; closed = h.closed; layers = g.1; redex = tt; mail = h.mail; labels = fit-append n.labels _ h.labels (λ s. (reply_fits id r (g.0 s) k, tt)) }
   passes_fits n (frame.Rex i id form ∷ c) (outcome.Value v) h g k = put_fits n (frame.Rex i id form ∷ c) (focus.Given (outcome.Value v)) h g tt
   passes_fits n (frame.Protect j cleanup ∷ c) o h g k = absurd g.0
   passes_fits n (frame.Cleanup j kept ∷ c) o h g k = absurd g.0
@@ -196,7 +199,7 @@ module _ (Small : Type 0) where
   takes_fits n p None h k = put_fits n n.context (focus.Wait p) h h.layers tt
   takes_fits n p (Some m) h k =
       taken_fits (took n p m.0) m.0 m.1
-      (record { names = h.names; layers = h.layers; redex = h.redex; mail = without_fits p n.mailbox h.mail; labels = fit-append n.labels _ h.labels (λ s. tt) }) k
+      (record { names = h.names; closed = h.closed; layers = h.layers; redex = h.redex; mail = without_fits p n.mailbox h.mail; labels = fit-append n.labels _ h.labels (λ s. tt) }) k
 
   -- ---- leaving
 
@@ -214,6 +217,7 @@ module _ (Small : Type 0) where
       subst Fits (sym (ap (λ (y : Leaving). exits n y.target y.bring) e ∙ exits_to_top n (layers_simple Small n.context h.layers)))
       (record {
         names = h.names;
+        closed = h.closed;
         layers = tt;
         redex = tt;
         mail = h.mail;
@@ -246,11 +250,11 @@ module _ (Small : Type 0) where
   perform_fits n (act.Outward a) g h = perform_fits (around n (outward n.context)) a g (around_fits n (outward n.context) h (outward_fits n.context h.layers))
   perform_fits n (act.Writes ws a) g h =
       perform_fits (tells n (map written ws)) a g.1
-      (record { names = h.names; layers = h.layers; redex = h.redex; mail = h.mail; labels = fit-append n.labels (map written ws) h.labels (writings_fit ws g.0) })
+      (record { names = h.names; closed = h.closed; layers = h.layers; redex = h.redex; mail = h.mail; labels = fit-append n.labels (map written ws) h.labels (writings_fit ws g.0) })
   perform_fits n (act.Changes image a) g h =
-      perform_fits (record n { image = image }) a g.1 (record { names = g.0; layers = h.layers; redex = h.redex; mail = h.mail; labels = h.labels })
+      perform_fits (record n { image = image }) a g.1 (record { names = g.0; closed = h.closed; layers = h.layers; redex = h.redex; mail = h.mail; labels = h.labels })
   perform_fits n (act.Inspects vs a) g h =
-      perform_fits (record n { inspected = vs }) a g (record { names = h.names; layers = h.layers; redex = h.redex; mail = h.mail; labels = h.labels })
+      perform_fits (record n { inspected = vs }) a g (record { names = h.names; closed = h.closed; layers = h.layers; redex = h.redex; mail = h.mail; labels = h.labels })
   perform_fits n (act.Raises condition) g h = absurd g
   perform_fits n (act.Protects a cleanup) g h = absurd g
   perform_fits n (act.Asks kind text) g h = absurd g
@@ -262,13 +266,13 @@ module _ (Small : Type 0) where
 
   -- ---- rows
 
-  commanded_fits : (n : Now) (g : Given) → HasShortNames n.image → IsShortGiven g → raises (commanded n (command_of n.inspected g)) ≡ false → ActFits (commanded n (command_of n.inspected g))
+  commanded_fits : (n : Now) (g : Given) → HasShortNames n.image → IsShortGiven g → is_raise (commanded n (command_of n.inspected g)) ≡ false → ActFits (commanded n (command_of n.inspected g))
   commanded_fits n (Replies reply) h k e = k
   commanded_fits n (RepliesIn global reply) h k e = (h, k)
   commanded_fits n (Refuses condition) h k e = absurd (true≢false e)
   commanded_fits n (Evaluates forms kept) h k e = ((tt, tt), refl)
 
-  finished_fits : (n : Now) (v : Value) (e : Ended) → IsShortEnd e → raises (finished n v (finish_of n.inspected e)) ≡ false → ActFits (finished n v (finish_of n.inspected e))
+  finished_fits : (n : Now) (v : Value) (e : Ended) → IsShortEnd e → is_raise (finished n v (finish_of n.inspected e)) ≡ false → ActFits (finished n v (finish_of n.inspected e))
   finished_fits n v (Ok e) h r = h
   finished_fits n v (Err condition) h r = absurd (true≢false r)
 
@@ -277,25 +281,25 @@ module _ (Small : Type 0) where
   before_fit (p ∷ ps) origin = (tt, tt)
 
   tree_fits : (n : Now) (tree : Result Ast Value) (p : Placed) (ps : List Placed) (origin : Option Origin)
-      → raises (with_tree n tree (λ e. act.Goes (before_forms ps origin) (placed_found e (row_of e) origin p.at))) ≡ false
+      → is_raise (with_tree n tree (λ e. act.Goes (before_forms ps origin) (placed_found e (row_of e) origin p.at))) ≡ false
       → ActFits (with_tree n tree (λ e. act.Goes (before_forms ps origin) (placed_found e (row_of e) origin p.at)))
   tree_fits n (Ok e) p ps origin r = (before_fit ps origin, placed_simple e (row_of e) origin p.at)
   tree_fits n (Err bad) p ps origin r = absurd (true≢false r)
 
   resolved_fits : (n : Now) (p : Placed) (ps : List Placed) (origin : Option Origin) (named : Result (List Package × Value) NameFault)
-      → IsShortAnswer named → raises (or_refuse named (resolved rules n p ps origin)) ≡ false → ActFits (or_refuse named (resolved rules n p ps origin))
+      → IsShortAnswer named → is_raise (or_refuse named (resolved rules n p ps origin)) ≡ false → ActFits (or_refuse named (resolved rules n p ps origin))
   resolved_fits n p ps origin (Ok found) h r = (h, tree_fits n (parsed found.1) p ps origin r)
   resolved_fits n p ps origin (Err why) h r = absurd (true≢false r)
 
-  forms_fit : (n : Now) (forms : List Placed) (origin : Option Origin) → HasShortNames n.image → raises (forms_row rules n forms origin) ≡ false → ActFits (forms_row rules n forms origin)
+  forms_fit : (n : Now) (forms : List Placed) (origin : Option Origin) → HasShortNames n.image → is_raise (forms_row rules n forms origin) ≡ false → ActFits (forms_row rules n forms origin)
   forms_fit n [] origin h r = (tt, tt)
   forms_fit n (p ∷ ps) origin h r =
       let packages = n.image.packages in
       resolved_fits n p ps origin (in_named packages (current n) (λ i. valued i p.form packages))
       (in_named_short packages (current n) (λ i. valued i p.form packages) (λ i. valued_short i p.form packages h)) r
 
-  outcome_row : (n : Now) (c : Context) (o : Outcome) → HasShortNames n.image → LayersFit Small c → OutcomeFits o → is_form_built c (focus.Given o) ≡ true
-      → raises (decided n (given_row rules c o)) ≡ false → ActFits (decided n (given_row rules c o))
+  outcome_row : (n : Now) (c : Context) (o : Outcome) → HasShortNames n.image → LayersFit Small c → OutcomeFits o → has_row c (focus.Given o) ≡ true
+      → is_raise (decided n (given_row rules c o)) ≡ false → ActFits (decided n (given_row rules c o))
   outcome_row n [] o h g k e r = absurd (false≢true e)
   outcome_row n (frame.On (plain.Before f) ∷ c) o h g k e r = g.0
   outcome_row n (frame.On (plain.Answer kept) ∷ c) (outcome.Value v) h g k e r =
@@ -308,7 +312,7 @@ module _ (Small : Type 0) where
   outcome_row n (frame.Ask kind tag ∷ c) o h g k e r = absurd (false≢true e)
 
   -- a built row
-  row_fits : (n : Now) (f : Focus) → Fits n → RedexFits f → is_row_built rules (asked n) n.context f ≡ true → raises (row rules n f) ≡ false → ActFits (row rules n f)
+  row_fits : (n : Now) (f : Focus) → Fits n → RedexFits f → is_row_built built n f ≡ true → is_raise (row rules n f) ≡ false → ActFits (row rules n f)
   row_fits n (focus.Wait p) h k e r = tt
   row_fits n (focus.Forms forms origin) h k e r = forms_fit n forms origin h.names r
   row_fits n focus.Abort h k e r = abort_exit-simple n.context (layers_simple Small n.context h.layers)
@@ -319,17 +323,18 @@ module _ (Small : Type 0) where
   -- ---- steps
 
   begun_fits : (n : Now) → Fits n → Fits (begun n)
-  begun_fits n h = record { names = h.names; layers = h.layers; redex = h.redex; mail = h.mail; labels = λ s. tt }
+  begun_fits n h = record { names = h.names; closed = h.closed; layers = h.layers; redex = h.redex; mail = h.mail; labels = λ s. tt }
 
-  step_by : (n : Now) (b : Bool) → is_built rules n ≡ b → Fits n → Fits (step rules n)
+  step_by : (n : Now) (b : Bool) → is_built built rules (limited built n) ≡ b → Fits (limited built n) → Fits (step_as_built built rules n)
   step_by n true e h =
-      let parts = and_parts (is_row_built rules (asked n) n.context n.redex) (not (raises (row rules n n.redex))) e in
-      let fits = row_fits n n.redex h h.redex parts.0 (not-true (raises (row rules n n.redex)) parts.1) in
-      subst Fits (sym (built_step n (layers_simple Small n.context h.layers) e)) (perform_fits (begun n) (row rules n n.redex) fits (begun_fits n h))
+      let m = limited built n in
+      let parts = and_parts (is_row_built built m m.redex) (not (is_raise (row rules m m.redex))) e in
+      let fits = row_fits m m.redex h h.redex parts.0 (not-true (is_raise (row rules m m.redex)) parts.1) in
+      subst Fits (sym (built_step n (layers_simple Small n.context h.layers) e)) (perform_fits (begun m) (row rules m m.redex) fits (begun_fits m h))
   step_by n false e h =
       subst Fits (sym (unbuilt_step n (layers_simple Small n.context h.layers) e))
-      (record { names = h.names; layers = tt; redex = tt; mail = h.mail; labels = left_fits n.thread n.context h.layers })
+      (record { names = h.names; closed = refl; layers = tt; redex = tt; mail = h.mail; labels = left_fits n.thread n.context h.layers })
 
   -- a step keeps the facts, and what it tells fits
-  pub step_fits : (n : Now) → Fits n → Fits (step rules n)
-  step_fits n h = step_by n (is_built rules n) refl h
+  pub step_fits : (n : Now) → Fits (limited built n) → Fits (step_as_built built rules n)
+  step_fits n h = step_by n (is_built built rules (limited built n)) refl h

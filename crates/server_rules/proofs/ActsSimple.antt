@@ -53,35 +53,35 @@ pub record Keeps (n m : Now) : Type 0 where
 keeps_as : (n m k : Now) → m ≡ k → Keeps n k → Keeps n m
 keeps_as n m k e h = subst (Keeps n) (sym e) h
 
-lays_keeps : (n : Now) (ps : List Plain) (found : Found) → are_simple n.context ≡ true → ArePlain ps → IsSimpleFound found → Keeps n (lays n ps found)
-lays_keeps n ps found e g h =
+lays_keeps : (n : Now) → n.most ≡ 0 → (ps : List Plain) (found : Found) → are_simple n.context ≡ true → ArePlain ps → IsSimpleFound found → Keeps n (lays n ps found)
+lays_keeps n z ps found e g h =
     let x = entered (is_within n.context) n.context ps found in
-    keeps_as n (lays n ps found) (laid_in n x) (lays-simple n ps found e) (record { simple = entered_simple (is_within n.context) n.context ps found e g h; beside = refl })
+    keeps_as n (lays n ps found) (laid_in n x) (lays-simple n z ps found e) (record { simple = entered_simple (is_within n.context) n.context ps found e g h; beside = refl })
 
-given_keeps : (n : Now) (p : Plain) (c : Context) (v : Value) (o : Option Found) → resumed p v ≡ o → are_simple (frame.On p ∷ c) ≡ true → Keeps n (given n p c v o)
-given_keeps n p c v None r e = record { simple = e; beside = refl }
-given_keeps n p c v (Some found) r e =
-    let k = lays_keeps (around n c) [] found (simple_rest (frame.On p) c e) tt (resumed_simple p v found r) in
+given_keeps : (n : Now) → n.most ≡ 0 → (p : Plain) (c : Context) (v : Value) (o : Option Found) → resumed p v ≡ o → are_simple (frame.On p ∷ c) ≡ true → Keeps n (given n p c v o)
+given_keeps n z p c v None r e = record { simple = e; beside = refl }
+given_keeps n z p c v (Some found) r e =
+    let k = lays_keeps (around n c) z [] found (simple_rest (frame.On p) c e) tt (resumed_simple p v found r) in
     record { simple = k.simple; beside = k.beside }
 
-gives_in_keeps : (n : Now) (c : Context) (o : Outcome) → are_simple c ≡ true → Keeps n (gives_in n c o)
-gives_in_keeps n (frame.On p ∷ c) (outcome.Value v) e = given_keeps n p c v (resumed p v) refl e
-gives_in_keeps n (frame.On p ∷ c) (outcome.Reply r) e = record { simple = e; beside = refl }
-gives_in_keeps n [] o e = record { simple = e; beside = refl }
-gives_in_keeps n (frame.Rex i id form ∷ c) o e = record { simple = e; beside = refl }
-gives_in_keeps n (frame.Protect k cleanup ∷ c) o e = absurd (false≢true e)
-gives_in_keeps n (frame.Cleanup k kept ∷ c) o e = absurd (false≢true e)
-gives_in_keeps n (frame.Sldb k condition again ∷ c) o e = absurd (false≢true e)
-gives_in_keeps n (frame.Ask kind tag ∷ c) o e = absurd (false≢true e)
+gives_in_keeps : (n : Now) → n.most ≡ 0 → (c : Context) (o : Outcome) → are_simple c ≡ true → Keeps n (gives_in n c o)
+gives_in_keeps n z (frame.On p ∷ c) (outcome.Value v) e = given_keeps n z p c v (resumed p v) refl e
+gives_in_keeps n z (frame.On p ∷ c) (outcome.Reply r) e = record { simple = e; beside = refl }
+gives_in_keeps n z [] o e = record { simple = e; beside = refl }
+gives_in_keeps n z (frame.Rex i id form ∷ c) o e = record { simple = e; beside = refl }
+gives_in_keeps n z (frame.Protect k cleanup ∷ c) o e = absurd (false≢true e)
+gives_in_keeps n z (frame.Cleanup k kept ∷ c) o e = absurd (false≢true e)
+gives_in_keeps n z (frame.Sldb k condition again ∷ c) o e = absurd (false≢true e)
+gives_in_keeps n z (frame.Ask kind tag ∷ c) o e = absurd (false≢true e)
 
-gives_keeps : (n : Now) (o : Outcome) → are_simple n.context ≡ true → Keeps n (gives n o)
-gives_keeps n o e = gives_in_keeps n n.context o e
+gives_keeps : (n : Now) → n.most ≡ 0 → (o : Outcome) → are_simple n.context ≡ true → Keeps n (gives n o)
+gives_keeps n z o e = gives_in_keeps n z n.context o e
 
-goes_keeps : (n : Now) (ps : List Plain) (found : Found) → are_simple n.context ≡ true → ArePlain ps → IsSimpleFound found → Keeps n (goes n ps found)
-goes_keeps n [] (Already v) e g h = gives_keeps n (outcome.Value v) e
-goes_keeps n [] (Here f) e g h = lays_keeps n [] (Here f) e g h
-goes_keeps n [] (Inside p a) e g h = lays_keeps n [] (Inside p a) e g h
-goes_keeps n (p ∷ ps) found e g h = lays_keeps n (p ∷ ps) found e g h
+goes_keeps : (n : Now) → n.most ≡ 0 → (ps : List Plain) (found : Found) → are_simple n.context ≡ true → ArePlain ps → IsSimpleFound found → Keeps n (goes n ps found)
+goes_keeps n z [] (Already v) e g h = gives_keeps n z (outcome.Value v) e
+goes_keeps n z [] (Here f) e g h = lays_keeps n z [] (Here f) e g h
+goes_keeps n z [] (Inside p a) e g h = lays_keeps n z [] (Inside p a) e g h
+goes_keeps n z (p ∷ ps) found e g h = lays_keeps n z (p ∷ ps) found e g h
 
 passes_keeps : (n : Now) (c : Context) (o : Outcome) → are_simple c ≡ true → Keeps n (passes n c o)
 passes_keeps n [] o e = record { simple = e; beside = refl }
@@ -101,21 +101,21 @@ package_plain : (b : Bool) (v : Value) → ArePlain (package_bound b v)
 package_plain true v = (refl, tt)
 package_plain false v = tt
 
-begins_keeps : (n : Now) (i : ℕ) (id : ℤ) (form : Sexp) (b : Bool) (v : Value) → are_simple n.context ≡ true → Keeps n (begins n i id form b v)
-begins_keeps n i id form b v e =
-    let k = lays_keeps (around n (frame.Rex i id form ∷ n.context)) (package_bound b v) (Here focus.Rpc) e (package_plain b v) refl in
+begins_keeps : (n : Now) → n.most ≡ 0 → (i : ℕ) (id : ℤ) (form : Sexp) (b : Bool) (v : Value) → are_simple n.context ≡ true → Keeps n (begins n i id form b v)
+begins_keeps n z i id form b v e =
+    let k = lays_keeps (around n (frame.Rex i id form ∷ n.context)) z (package_bound b v) (Here focus.Rpc) e (package_plain b v) refl in
     record { simple = k.simple; beside = k.beside }
 
-taken_keeps : (n : Now) (i : ℕ) (m : FromEmacs) → are_simple n.context ≡ true → Keeps n (takes_mail n i m)
-taken_keeps n i (mail.Rex form name thread id) e = begins_keeps n i id form (binds_package form) (bound_package n.image name) e
-taken_keeps n i (mail.ReturnString thread tag text) e = gives_keeps n (outcome.Value (value.Str text)) e
-taken_keeps n i (mail.Return thread tag form) e = gives_keeps n (outcome.Value (answer_in (out-Sexp form))) e
-taken_keeps n i (mail.Interrupt thread) e = record { simple = e; beside = refl }
-taken_keeps n i (mail.Unreadable packet text) e = record { simple = e; beside = refl }
+taken_keeps : (n : Now) → n.most ≡ 0 → (i : ℕ) (m : FromEmacs) → are_simple n.context ≡ true → Keeps n (takes_mail n i m)
+taken_keeps n z i (mail.Rex form name thread id) e = begins_keeps n z i id form (binds_package form) (bound_package n.image name) e
+taken_keeps n z i (mail.ReturnString thread tag text) e = gives_keeps n z (outcome.Value (value.Str text)) e
+taken_keeps n z i (mail.Return thread tag form) e = gives_keeps n z (outcome.Value (answer_in (out-Sexp form))) e
+taken_keeps n z i (mail.Interrupt thread) e = record { simple = e; beside = refl }
+taken_keeps n z i (mail.Unreadable packet text) e = record { simple = e; beside = refl }
 
-takes_keeps : (n : Now) (p : Pattern) (o : Option (ℕ × FromEmacs)) → are_simple n.context ≡ true → Keeps n (takes n p o)
-takes_keeps n p None e = record { simple = e; beside = refl }
-takes_keeps n p (Some m) e = let k = taken_keeps (took n p m.0) m.0 m.1 e in record { simple = k.simple; beside = k.beside }
+takes_keeps : (n : Now) → n.most ≡ 0 → (p : Pattern) (o : Option (ℕ × FromEmacs)) → are_simple n.context ≡ true → Keeps n (takes n p o)
+takes_keeps n z p None e = record { simple = e; beside = refl }
+takes_keeps n z p (Some m) e = let k = taken_keeps (took n p m.0) z m.0 m.1 e in record { simple = k.simple; beside = k.beside }
 
 outward_simple : (c : Context) → are_simple c ≡ true → are_simple (outward c) ≡ true
 outward_simple [] e = e
@@ -126,25 +126,25 @@ outward_simple (frame.Cleanup k kept ∷ c) e = e
 outward_simple (frame.Sldb k condition again ∷ c) e = e
 outward_simple (frame.Ask kind tag ∷ c) e = absurd (false≢true e)
 
-pub perform_keeps : (n : Now) (a : Act) → IsSimpleAct n.inspected a → are_simple n.context ≡ true → Keeps n (perform n a)
-perform_keeps n (act.Goes ps found) h e = goes_keeps n ps found e h.0 h.1
-perform_keeps n (act.Gives o) h e = gives_keeps n o e
-perform_keeps n (act.Resumes f) h e = record { simple = e; beside = refl }
-perform_keeps n act.Passes h e = passes_keeps n n.context (outcome_of n.redex) e
-perform_keeps n (act.Exits x) h e = exits_keeps n x h e
-perform_keeps n (act.Takes p) h e = takes_keeps n p (first_accepted p n.mailbox) e
-perform_keeps n (act.Outward a) h e =
-    let k = perform_keeps (around n (outward n.context)) a h (outward_simple n.context e) in record { simple = k.simple; beside = k.beside }
-perform_keeps n (act.Writes ws a) h e = let k = perform_keeps (tells n _) a h e in record { simple = k.simple; beside = k.beside }
-perform_keeps n (act.Changes image a) h e = let k = perform_keeps (record n { image = image }) a h e in record { simple = k.simple; beside = k.beside }
-perform_keeps n (act.Inspects ws a) h e =
-    let k = perform_keeps (record n { inspected = ws }) a (subst (λ vs. IsSimpleAct vs a) (sym h.0) h.1) e in
+pub perform_keeps : (n : Now) → n.most ≡ 0 → (a : Act) → IsSimpleAct n.inspected a → are_simple n.context ≡ true → Keeps n (perform n a)
+perform_keeps n z (act.Goes ps found) h e = goes_keeps n z ps found e h.0 h.1
+perform_keeps n z (act.Gives o) h e = gives_keeps n z o e
+perform_keeps n z (act.Resumes f) h e = record { simple = e; beside = refl }
+perform_keeps n z act.Passes h e = passes_keeps n n.context (outcome_of n.redex) e
+perform_keeps n z (act.Exits x) h e = exits_keeps n x h e
+perform_keeps n z (act.Takes p) h e = takes_keeps n z p (first_accepted p n.mailbox) e
+perform_keeps n z (act.Outward a) h e =
+    let k = perform_keeps (around n (outward n.context)) z a h (outward_simple n.context e) in record { simple = k.simple; beside = k.beside }
+perform_keeps n z (act.Writes ws a) h e = let k = perform_keeps (tells n _) z a h e in record { simple = k.simple; beside = k.beside }
+perform_keeps n z (act.Changes image a) h e = let k = perform_keeps (record n { image = image }) z a h e in record { simple = k.simple; beside = k.beside }
+perform_keeps n z (act.Inspects ws a) h e =
+    let k = perform_keeps (record n { inspected = ws }) z a (subst (λ vs. IsSimpleAct vs a) (sym h.0) h.1) e in
     record { simple = k.simple; beside = k.beside ∙ ap (λ vs. beside (record n { inspected = vs })) h.0 }
-perform_keeps n (act.Raises condition) h e = absurd h
-perform_keeps n (act.Protects a cleanup) h e = absurd h
-perform_keeps n (act.Asks kind text) h e = absurd h
-perform_keeps n (act.Opens condition) h e = absurd h
-perform_keeps n (act.Breaks o) h e = absurd h
-perform_keeps n act.Closes h e = absurd h
-perform_keeps n (act.Assigns x v a) h e = absurd h
-perform_keeps n (act.Sets x v a) h e = absurd h
+perform_keeps n z (act.Raises condition) h e = absurd h
+perform_keeps n z (act.Protects a cleanup) h e = absurd h
+perform_keeps n z (act.Asks kind text) h e = absurd h
+perform_keeps n z (act.Opens condition) h e = absurd h
+perform_keeps n z (act.Breaks o) h e = absurd h
+perform_keeps n z act.Closes h e = absurd h
+perform_keeps n z (act.Assigns x v a) h e = absurd h
+perform_keeps n z (act.Sets x v a) h e = absurd h

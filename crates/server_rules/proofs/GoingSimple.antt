@@ -103,14 +103,14 @@ pub entered_simple : (b : Bool) (c : Context) (ps : List Plain) (found : Found) 
 entered_simple true c ps found e g h = wrap_simple (room c) c ps found e g h
 entered_simple false c ps found e g h = e
 
-laid-in : (n : Now) (c : Context) (o : Option Focus) → laid (around n c) o ≡ laid_in n (record { around = c; redex = o })
-laid-in n c (Some f) = refl
-laid-in n c None = exhausted-leaves (around n c)
+laid-in : (n : Now) → n.most ≡ 0 → (c : Context) (o : Option Focus) → laid (around n c) o ≡ laid_in n (record { around = c; redex = o })
+laid-in n z c (Some f) = refl
+laid-in n z c None = exhausted-leaves (around n c) z
 
-lays_if-simple : (b : Bool) (n : Now) (ps : List Plain) (found : Found) → are_simple n.context ≡ true → lays_if b n ps found ≡ laid_in n (entered b n.context ps found)
-lays_if-simple true n ps found e = let w = wrap (room n.context) n.context ps found in laid-in n w.around w.redex
-lays_if-simple false n ps found e = exhausted-leaves (around n (cut_off n.context)) ∙ ap (λ c. puts n c focus.Abort) (cut_off-simple n.context e)
+lays_if-simple : (b : Bool) (n : Now) → n.most ≡ 0 → (ps : List Plain) (found : Found) → are_simple n.context ≡ true → lays_if b n ps found ≡ laid_in n (entered b n.context ps found)
+lays_if-simple true n z ps found e = let w = wrap (room n.context) n.context ps found in laid-in n z w.around w.redex
+lays_if-simple false n z ps found e = exhausted-leaves (around n (cut_off n.context)) z ∙ ap (λ c. puts n c focus.Abort) (cut_off-simple n.context e)
 
 -- markers and a form go inside as far as there is room; where there is none the redex is leaving
-pub lays-simple : (n : Now) (ps : List Plain) (found : Found) → are_simple n.context ≡ true → lays n ps found ≡ laid_in n (entered (is_within n.context) n.context ps found)
-lays-simple n ps found e = lays_if-simple (is_within n.context) n ps found e
+pub lays-simple : (n : Now) → n.most ≡ 0 → (ps : List Plain) (found : Found) → are_simple n.context ≡ true → lays n ps found ≡ laid_in n (entered (is_within n.context) n.context ps found)
+lays-simple n z ps found e = lays_if-simple (is_within n.context) n z ps found e

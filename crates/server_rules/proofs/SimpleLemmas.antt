@@ -1,5 +1,6 @@
 -- Contexts of requests and of plain layers without restarts: no level is open, nothing is announced, and the visible ABORT is the top's.
-use Rattle.std.proofs.Common.{◌≡◌, ℕ, zero, suc, ◌+◌, ◌≤◌, Bool, true, false, List, [], ◌∷◌, ◌++◌, length, Option, None, refl, ap, ◌∙◌, arith}
+use Rattle.std.proofs.Common.{◌≡◌, ℕ, zero, suc, ◌+◌, ◌≤◌, Bool, true, false, ◌&&◌, List, [], ◌∷◌, ◌++◌, length, Option, None, refl, ap, ◌∙◌, arith}
+use Rattle.std.specs.Prelude.{nat_lt}
 use Rattle.std.proofs.lemmas.Bool.{and_parts, false≢true, le-ltb}
 use Rattle.rpc_messages.specs.declared.pattern.Pattern.TheVariants as pattern
 use Rattle.rpc_messages.specs.declared.to_emacs.Returned.TheVariants as returned
@@ -14,7 +15,7 @@ use Rattle.term_model.specs.declared.kept.Saved.TheVariants as saved
 use Rattle.term_model.specs.declared.plain.Plain.{Plain}
 use Rattle.term_model.specs.declared.plain.Plain.TheVariants as plain
 use Rattle.term_model.specs.declared.restart.Restart.{Restart}
-use Rattle.term_model.specs.Breaks.{broken_at, may_open}
+use Rattle.term_model.specs.Breaks.{broken_at, max_levels, may_open}
 use Rattle.term_model.specs.Exit.{Left, distance, dropped, leave, stir}
 use Rattle.term_model.specs.Label.{Label, messages_in}
 use Rattle.term_model.specs.Restarts.{abort, abort_exit, first_named, invoking, nothing_at, offered, or_to_top, top_restart, visible}
@@ -37,16 +38,16 @@ simple_first l c e = (and_parts (is_simple l) (are_simple c) e).0
 -- ---- levels
 
 -- no level may be opened
-pub may_open-none : (c : Context) → may_open c ≡ false
-may_open-none c = le-ltb (levels c) 0 (omega arith)
+pub may_open-none : (c : Context) → may_open 0 c ≡ false
+may_open-none c = ap (λ b. b && nat_lt (levels c) max_levels) (le-ltb (levels c) 0 (omega arith))
 
 -- an interrupt leaves by ABORT
-pub broken-leaves : (c : Context) (f : Focus) → broken_at (may_open c) c f ≡ (c, focus.Abort)
+pub broken-leaves : (c : Context) (f : Focus) → broken_at (may_open 0 c) c f ≡ (c, focus.Abort)
 broken-leaves c f = ap (λ b. broken_at b c f) (may_open-none c)
 
 -- where there is no room for a layer the redex is leaving
-pub exhausted-leaves : (n : Now) → exhausted n ≡ puts n n.context focus.Abort
-exhausted-leaves n = ap (λ b. exhausted_if b n) (may_open-none n.context)
+pub exhausted-leaves : (n : Now) → n.most ≡ 0 → exhausted n ≡ puts n n.context focus.Abort
+exhausted-leaves n z = ap (λ k. exhausted_if (may_open k n.context) n) z ∙ ap (λ b. exhausted_if b n) (may_open-none n.context)
 
 pub no_levels : (c : Context) → are_simple c ≡ true → levels c ≡ 0
 no_levels [] e = refl

@@ -1,3 +1,4 @@
+pub mod Built
 pub mod Rules
 pub mod Simple
 pub mod Beside

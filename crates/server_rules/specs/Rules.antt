@@ -1,10 +1,10 @@
 -- The table of steps of this server: the one table, with the functions beside it as they are built.
 use Rattle.std.specs.Prelude.{false, None, Ok}
 use Rattle.step_model.specs.Rules.{Rules}
-use Rattle.swank_rpc.specs.Calls as call
 use Rattle.swank_rpc.specs.Commands as command
 use Rattle.swank_rpc.specs.Finishes as finish
 use Rattle.lisp_syntax.specs.Parsing.{parsed}
+use Rattle.server_rules.specs.Built.{built}
 
 -- what no row asks for that is built is left out: functions with one step, control texts and `defpackage`
 abbrev pub rules : Rules
@@ -17,5 +17,5 @@ rules = record {
   with_package = λ packages name uses exports. Ok packages;
   command = command.command;
   finish = finish.finish;
-  is_served = call.is_served;
+  built = built;
 }

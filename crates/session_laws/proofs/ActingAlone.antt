@@ -9,7 +9,7 @@ use Rattle.session_laws.proofs.Receiving.{arrival_received}
 pub acts_alone : (rules : Rules) (w : World) → ActsAlone rules w
 acts_alone rules w = record {
   burst = λ seat t n. burst_alone rules w t n;
-  lend = λ seat t. lend_alone w seat t;
+  lend = λ seat t. lend_alone rules.built.levels w seat t;
   arrive = λ seat m. arrival_received w m;
   end = λ seat. refl;
   drain = λ seat k. refl;

@@ -8,13 +8,13 @@ use Rattle.term_model.specs.declared.question.Ask.TheVariants as question
 use Rattle.term_model.specs.Breaks.{may_open}
 use Rattle.term_model.specs.Label.{Label}
 use Rattle.term_model.specs.Term.{split}
-use Rattle.step_model.proofs.Paths.{step_path}
+use Rattle.step_model.proofs.Paths.{as_built_path}
 use Rattle.step_model.specs.Marks.{Mark, State, state_of}
 use Rattle.step_model.specs.Moves as move
 use Rattle.step_model.specs.Moves.{Move, Fits, Path, Phase, announced_level, go, stay, told}
 use Rattle.step_model.specs.Now.{Mailbox, Now}
 use Rattle.step_model.specs.Rules.{Rules, Output, NewPackage}
-use Rattle.step_model.specs.Step.{step}
+use Rattle.step_model.specs.AsBuilt.{step_as_built}
 use Rattle.session_model.specs.Running.{broke_if, bursts, is_over, lends, lends_thread, now_of, returns, settles, step_of, steps, steps_once, swept, unlent}
 use Rattle.session_model.specs.World.{Happened, Thread, World, silent, then, thread_at, with_thread}
 use Rattle.session_laws.specs.ActsAlone.{AreOf, IsAlone, NamesOnly}
@@ -73,16 +73,16 @@ settles_alone : (w : World) (t : ℕ) (thread : Thread) (n : Now) (b : Bool) →
 settles_alone w t thread n false h = record { others = λ u ne. other_set w t u _ ne; labels = h }
 settles_alone w t thread n true h = record { others = λ u ne. other_set w t u _ ne; labels = of_append t n.labels _ h (swept_own t n.mailbox) }
 
-pub step_labels : (rules : Rules) (n : Now) → AreOf n.thread (step rules n).labels
+pub step_labels : (rules : Rules) (n : Now) → AreOf n.thread (step_as_built rules.built rules n).labels
 step_labels rules n =
-    let p = step_path rules n in
-    let is : facts.IsOf n.thread (step rules n) = step_of_thread rules n in
-    subst (λ u. AreOf u (step rules n).labels) is.0 (path_own (step rules n).thread (state_of n) (step rules n).labels (state_of (step rules n)) p.1)
+    let p = as_built_path rules.built rules n in
+    let is : facts.IsOf n.thread (step_as_built rules.built rules n) = step_of_thread rules n in
+    subst (λ u. AreOf u (step_as_built rules.built rules n).labels) is.0 (path_own (step_as_built rules.built rules n).thread (state_of n) (step_as_built rules.built rules n).labels (state_of (step_as_built rules.built rules n)) p.1)
 
 step_alone : (rules : Rules) (w : World) (t : ℕ) (o : Option Thread) → IsAlone t w (step_of rules w t o)
 step_alone rules w t None = silent_alone t w
 step_alone rules w t (Some thread) =
-    let n = step rules (now_of w t thread) in
+    let n = step_as_built rules.built rules (now_of w t thread) in
     settles_alone w t thread n (is_over t n) (step_labels rules (now_of w t thread))
 
 then_alone : (t : ℕ) (w : World) (h : Happened) (further : World → Happened) → IsAlone t w h → IsAlone t h.after (further h.after) → IsAlone t w (then h further)
@@ -109,9 +109,9 @@ broke_own t zero b = tt
 broke_own t (suc n) true = (refl, tt)
 broke_own t (suc n) false = tt
 
-lends_alone : (w : World) (seat t : ℕ) (o : Option Thread) → IsAlone t w (lends_thread w seat t o)
-lends_alone w seat t None = silent_alone t w
-lends_alone w seat t (Some thread) = record { others = λ u ne. other_set w t u _ ne; labels = broke_own t thread.interrupts (may_open (split thread.term).0) }
+lends_alone : (most : ℕ) (w : World) (seat t : ℕ) (o : Option Thread) → IsAlone t w (lends_thread most w seat t o)
+lends_alone most w seat t None = silent_alone t w
+lends_alone most w seat t (Some thread) = record { others = λ u ne. other_set w t u _ ne; labels = broke_own t thread.interrupts (may_open most (split thread.term).0) }
 
-pub lend_alone : (w : World) (seat t : ℕ) → IsAlone t w (lends w seat t)
-lend_alone w seat t = lends_alone w seat t (thread_at w t)
+pub lend_alone : (most : ℕ) (w : World) (seat t : ℕ) → IsAlone t w (lends most w seat t)
+lend_alone most w seat t = lends_alone most w seat t (thread_at w t)

@@ -18,13 +18,13 @@ use Rattle.term_model.specs.Breaks.{broken_at, may_open}
 use Rattle.term_model.specs.Label.{Label, Routed, Refused, Out, Broke}
 use Rattle.term_model.specs.Term.{At, Context, plug, split, split-plug}
 use Rattle.step_model.proofs.KeepsFacts.{marks-broken}
-use Rattle.step_model.proofs.Paths.{step_path}
+use Rattle.step_model.proofs.Paths.{as_built_path}
 use Rattle.step_model.specs.Image.{ImageState}
 use Rattle.step_model.specs.Marks.{Mark, State, marks, state_of}
 use Rattle.step_model.specs.Moves.{Move, told, Fits, before, after, Phase, Path, stay, go, is_request}
 use Rattle.step_model.specs.Now.{Mailbox, Now}
 use Rattle.step_model.specs.Rules.{Rules}
-use Rattle.step_model.specs.Step.{step}
+use Rattle.step_model.specs.AsBuilt.{step_as_built}
 use Rattle.session_model.specs.declared.event.Entry.{Entry}
 use Rattle.session_model.specs.declared.event.Event.{Event}
 use Rattle.session_model.specs.declared.event.Event.TheVariants.{Arrive, End, Lend, Burst, Drain}
@@ -80,12 +80,12 @@ pub record IsLaw (I : List Entry → ℕ → List Label → Seen → Type 0) : T
 marks_plug : (c : Context) (f : Focus) → marks c ≡ marks (split (plug c (At f))).0
 marks_plug c f = ap (λ (s : Context × Focus). marks s.0) (sym (split-plug c f))
 
-state_interrupted : (n : ℕ) (thread : Thread) → state_in thread ≡ state_in (interrupted n thread)
-state_interrupted zero thread = refl
-state_interrupted (suc n) thread =
+state_interrupted : (most n : ℕ) (thread : Thread) → state_in thread ≡ state_in (interrupted most n thread)
+state_interrupted most zero thread = refl
+state_interrupted most (suc n) thread =
     let s = split thread.term in
-    let b = broken_at (may_open s.0) s.0 s.1 in
-    ap (λ ms. record { marks = ms; serial = thread.serial; mailbox = thread.mailbox }) (sym (marks-broken s.0 s.1) ∙ marks_plug b.0 b.1)
+    let b = broken_at (may_open most s.0) s.0 s.1 in
+    ap (λ ms. record { marks = ms; serial = thread.serial; mailbox = thread.mailbox }) (sym (marks-broken most s.0 s.1) ∙ marks_plug b.0 b.1)
 
 over_top : (t : ℕ) (n : Now) → IsOf t n → is_over t n ≡ true → n.context ≡ []
 over_top t n is e = is.1 (left n.over (not (t == repl)) e)
@@ -209,13 +209,13 @@ module _ (rules : Rules) (I : List Entry → ℕ → List Label → Seen → Typ
   broke_keeps past u t (suc n) true x ls i = law.broken past u t ls x i
   broke_keeps past u t (suc n) false x ls i = same_labels past u ls x i
 
-  lends_keep : (past : List Entry) (ls : List Label) (w : World) (seat t : ℕ) (o : Option Thread) → thread_at w t ≡ o → Holds past ls w.threads → After past ls (lends_thread w seat t o)
-  lends_keep past ls w seat t None at h = nothing past ls w.threads h
-  lends_keep past ls w seat t (Some thread) at h =
-      let b = may_open (split thread.term).0 in
+  lends_keep : (most : ℕ) (past : List Entry) (ls : List Label) (w : World) (seat t : ℕ) (o : Option Thread) → thread_at w t ≡ o → Holds past ls w.threads → After past ls (lends_thread most w seat t o)
+  lends_keep most past ls w seat t None at h = nothing past ls w.threads h
+  lends_keep most past ls w seat t (Some thread) at h =
+      let b = may_open most (split thread.term).0 in
       let e = found w.threads t thread at in
-      turned past past ls (broke_if t thread.interrupts b) w.threads t (Some (record (interrupted thread.interrupts thread) { lent = Some seat })) (slice_get_within w.threads t (Some thread) e)
-      (λ i. broke_keeps past t t thread.interrupts b (Alive (state_in (interrupted thread.interrupts thread))) ls (subst (λ s. I past t ls (Alive s)) (state_interrupted thread.interrupts thread) (was past ls w.threads t (Some (Some thread)) e i)))
+      turned past past ls (broke_if t thread.interrupts b) w.threads t (Some (record (interrupted most thread.interrupts thread) { lent = Some seat })) (slice_get_within w.threads t (Some thread) e)
+      (λ i. broke_keeps past t t thread.interrupts b (Alive (state_in (interrupted most thread.interrupts thread))) ls (subst (λ s. I past t ls (Alive s)) (state_interrupted most thread.interrupts thread) (was past ls w.threads t (Some (Some thread)) e i)))
       (λ u ne i. broke_keeps past u t thread.interrupts b (seen_in w.threads u) ls i) h
 
   settles_keeps : {ph : Phase} (past : List Entry) (ls : List Label) (w : World) (t : ℕ) (thread : Thread) (n : Now) (b : Bool) → (b ≡ true → n.context ≡ []) → slice_get w.threads t ≡ Some (Some thread) → Path t (state_in thread) n.labels (state_of n) ph → Holds past ls w.threads → After past ls (settles w t thread n b)
@@ -234,9 +234,9 @@ module _ (rules : Rules) (I : List Entry → ℕ → List Label → Seen → Typ
   step_keeps : (past : List Entry) (ls : List Label) (w : World) (t : ℕ) (o : Option Thread) → thread_at w t ≡ o → Holds past ls w.threads → After past ls (step_of rules w t o)
   step_keeps past ls w t None at h = nothing past ls w.threads h
   step_keeps past ls w t (Some thread) at h =
-      let n = step rules (now_of w t thread) in
+      let n = step_as_built rules.built rules (now_of w t thread) in
       let is : IsOf t n = step_of_thread rules (now_of w t thread) in
-      let p = step_path rules (now_of w t thread) in
+      let p = as_built_path rules.built rules (now_of w t thread) in
       settles_keeps past ls w t thread n (is_over t n) (over_top t n is) (found w.threads t thread at) (subst (λ u. Path u (state_in thread) n.labels (state_of n) p.0) is.0 p.1) h
 
   -- one thing after another
@@ -265,7 +265,7 @@ module _ (rules : Rules) (I : List Entry → ℕ → List Label → Seen → Typ
   happens_keeps : (past : List Entry) (e : Entry) (ls : List Label) (w : World) (event : Event) → e.event ≡ event → asks e.event ≡ asks event → w.places ≡ length past → Holds past ls w.threads → After (past ++ e ∷ []) ls (happens rules w e.seat event)
   happens_keeps past e ls w (Arrive m) is asks place h = arrives_keep past e ls w m is asks place h
   happens_keeps past e ls w End is asks place h = nothing (past ++ e ∷ []) ls w.threads (later_keeps past e ls w.threads asks h)
-  happens_keeps past e ls w (Lend t) is asks place h = lends_keep (past ++ e ∷ []) ls w e.seat t (thread_at w t) refl (later_keeps past e ls w.threads asks h)
+  happens_keeps past e ls w (Lend t) is asks place h = lends_keep rules.built.levels (past ++ e ∷ []) ls w e.seat t (thread_at w t) refl (later_keeps past e ls w.threads asks h)
   happens_keeps past e ls w (Burst t n) is asks place h = bursts_keep (past ++ e ∷ []) n t ls w (later_keeps past e ls w.threads asks h)
   happens_keeps past e ls w (Drain k) is asks place h = nothing (past ++ e ∷ []) ls w.threads (later_keeps past e ls w.threads asks h)
 

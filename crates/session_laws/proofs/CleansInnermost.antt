@@ -6,12 +6,12 @@ use Rattle.term_model.specs.declared.frame.Frame.TheVariants as frame
 use Rattle.term_model.specs.declared.question.Ask.TheVariants as question
 use Rattle.term_model.specs.Label.{Label}
 use Rattle.term_model.specs.Term.{Context}
-use Rattle.step_model.proofs.Paths.{step_path}
+use Rattle.step_model.proofs.Paths.{as_built_path}
 use Rattle.step_model.specs.Marks.{Mark, Protected, Asking, State, marks, state_of}
 use Rattle.step_model.specs.Moves.{Protects, Turns, Unasked, Writes, told, removes, adds, Phase, Calm, Made, Turned, Path, stay, go}
 use Rattle.step_model.specs.Now.{Now}
 use Rattle.step_model.specs.Rules.{Rules, Output, NewPackage}
-use Rattle.step_model.specs.Step.{step}
+use Rattle.step_model.specs.AsBuilt.{step_as_built}
 use Rattle.session_laws.specs.CleansOnce.{CleansInnermost, begins, innermost_protected}
 use Rattle.session_laws.specs.Counting.{count, tally}
 use Rattle.session_laws.proofs.Counts.{count-append, own}
@@ -76,7 +76,7 @@ innermost-marks (frame.Ask kind tag ∷ c) = innermost-marks c
 
 pub cleans_innermost : (rules : Rules) (n : Now) (k : ℕ) → CleansInnermost rules n k
 cleans_innermost rules n k some =
-    let p = step_path rules n in
-    let is : IsOf n.thread (step rules n) = step_of_thread rules n in
-    let path : Path n.thread (state_of n) (step rules n).labels (state_of (step rules n)) p.0 = subst (λ u. Path u (state_of n) (step rules n).labels (state_of (step rules n)) p.0) is.0 p.1 in
-    innermost-marks n.context ∙ from_phase n.thread k (marks n.context) (step rules n).labels (marks (step rules n).context) p.0 (by_path n.thread (state_of n) (step rules n).labels (state_of (step rules n)) path) some
+    let p = as_built_path rules.built rules n in
+    let is : IsOf n.thread (step_as_built rules.built rules n) = step_of_thread rules n in
+    let path : Path n.thread (state_of n) (step_as_built rules.built rules n).labels (state_of (step_as_built rules.built rules n)) p.0 = subst (λ u. Path u (state_of n) (step_as_built rules.built rules n).labels (state_of (step_as_built rules.built rules n)) p.0) is.0 p.1 in
+    innermost-marks n.context ∙ from_phase n.thread k (marks n.context) (step_as_built rules.built rules n).labels (marks (step_as_built rules.built rules n).context) p.0 (by_path n.thread (state_of n) (step_as_built rules.built rules n).labels (state_of (step_as_built rules.built rules n)) path) some

@@ -54,7 +54,10 @@ use Rattle.step_model.specs.CurrentPackage.{binds_package, bound_package}
 use Rattle.step_model.specs.Now.{Now, around, tells}
 use Rattle.step_model.specs.Perform.{outcome_of, asking, continuing, interrupted, opens, after_leaving, answer_in, asks, assigns, assigns_or, breaks_if, brings, calls_again, cut_off, enters_if, exhausted_if, exits, finishes, given, gives, gives_in, goes, laid, lands, lays, lays_if, outward, package_bound, passes, perform, protects, protects_value, runs_action, runs_clause, runs_handler, runs_offer, sets, sets_or, takes, took, turned, written}
 use Rattle.step_model.specs.Rules.{Rules, Writing, Output, NewPackage}
+use Rattle.step_model.proofs.AsBuiltLemmas.{either_way}
+use Rattle.step_model.specs.AsBuilt.{leaving, limited}
 use Rattle.step_model.specs.Step as the_step
+use Rattle.step_model.specs.Table.{row}
 use Rattle.step_model.specs.Step.{announced_at}
 
 -- a request ends with a reply only where this redex is that reply
@@ -120,11 +123,11 @@ exhausted_says g n false h = h
 
 laid_says : (g : Focus) (n : Now) (o : Option Focus) → Says g n → Says g (laid n o)
 laid_says g n (Some f) h = h
-laid_says g n None h = exhausted_says g n (may_open n.context) h
+laid_says g n None h = exhausted_says g n (may_open n.most n.context) h
 
 lays_if_says : (g : Focus) (n : Now) (b : Bool) (ps : List Plain) (found : Found) → Says g n → Says g (lays_if b n ps found)
 lays_if_says g n true ps found h = let e = wrap (room n.context) n.context ps found in laid_says g (around n e.around) e.redex h
-lays_if_says g n false ps found h = exhausted_says g (around n (cut_off n.context)) (may_open (cut_off n.context)) h
+lays_if_says g n false ps found h = exhausted_says g (around n (cut_off n.context)) (may_open n.most (cut_off n.context)) h
 
 lays_says : (g : Focus) (n : Now) (ps : List Plain) (found : Found) → Says g n → Says g (lays n ps found)
 lays_says g n ps found h = lays_if_says g n (is_within n.context) ps found h
@@ -212,7 +215,7 @@ passes_says g n (frame.Ask kind tag ∷ c) o e h = h
 
 protects_value_says : (g : Focus) (n : Now) (o : Option Value) (cleanup : List Ast) → Says g n → Says g (protects_value n o cleanup)
 protects_value_says g n (Some v) cleanup h = h
-protects_value_says g n None cleanup h = exhausted_says g n (may_open n.context) h
+protects_value_says g n None cleanup h = exhausted_says g n (may_open n.most n.context) h
 
 protects_says : (g : Focus) (n : Now) (space : ℕ) (e : Ast) (cleanup : List Ast) → Says g n → Says g (protects n space e cleanup)
 protects_says g n zero e cleanup h = protects_value_says g n (value_in e) cleanup h
@@ -220,7 +223,7 @@ protects_says g n (suc space) e cleanup h =
     goes_says g (around (record n { serial = n.serial + 1 }) (frame.Protect n.serial cleanup ∷ n.context)) [] (look e) h
 
 asks_says : (g : Focus) (n : Now) (space : ℕ) (kind : Ask) (text : List ℕ) → Says g n → Says g (asks n space kind text)
-asks_says g n zero kind text h = exhausted_says g n (may_open n.context) h
+asks_says g n zero kind text h = exhausted_says g n (may_open n.most n.context) h
 asks_says g n (suc space) kind text h = more g n.labels (Out (asking kind n.thread n.tag text) ∷ []) h tt
 
 took_says : (g : Focus) (n : Now) (p : Pattern) (i : ℕ) → Says g n → Says g (took n p i)
@@ -259,8 +262,8 @@ perform_says g n (act.Resumes f) e h = h
 perform_says g n act.Passes e h = passes_says g n n.context (outcome_of n.redex) (ap outcome_of (sym e)) h
 perform_says g n (act.Protects form cleanup) e h = protects_says g n (room n.context) form cleanup h
 perform_says g n (act.Asks kind text) e h = asks_says g n (room n.context) kind text h
-perform_says g n (act.Opens condition) e h = enters_says g n (may_open n.context) condition h
-perform_says g n (act.Breaks o) e h = breaks_says g n (may_open n.context) o h
+perform_says g n (act.Opens condition) e h = enters_says g n (may_open n.most n.context) condition h
+perform_says g n (act.Breaks o) e h = breaks_says g n (may_open n.most n.context) o h
 perform_says g n (act.Exits x) e h = exits_says g n x.target x.bring h
 perform_says g n (act.Takes p) e h = takes_says g n p (first_accepted p n.mailbox) h
 perform_says g n act.Closes e h = h
@@ -275,7 +278,12 @@ announced_says : (g : Focus) (n : Now) (c : Context) (f : Focus) → Says g n �
 announced_says g n (frame.Sldb m condition true ∷ c) (focus.Wait pattern.Rex) h = more g n.labels (announcement n m condition c) h tt
 announced_says g n c f h = h
 
+carried_says : (n : Now) (a : Act) → Says n.redex (the_step.carried_out n a)
+carried_says n a =
+    let d = perform (the_step.begun n) a in
+    announced_says n.redex d d.context d.redex (perform_says n.redex (the_step.begun n) a refl tt)
+
 pub step_ends_with_its_reply : (rules : Rules) (n : Now) → EndsWithItsReply rules n
 step_ends_with_its_reply rules n =
-    let d = perform (the_step.begun n) (the_step.act rules n) in
-    announced_says n.redex d d.context d.redex (perform_says n.redex (the_step.begun n) (the_step.act rules n) refl tt)
+    let m = limited rules.built n in
+    either_way (Says n.redex) rules.built rules n (carried_says m (row rules m m.redex)) (carried_says m (leaving n))

@@ -6,7 +6,7 @@ use Rattle.rpc_messages.specs.declared.from_emacs.FromEmacs.{FromEmacs}
 use Rattle.term_model.specs.declared.focus.Focus.{Focus}
 use Rattle.term_model.specs.Breaks.{broken_at, may_open}
 use Rattle.term_model.specs.Term.{At, Context, plug, split, split-plug}
-use Rattle.step_model.proofs.KeepsFacts.{break_keeps, step_keeps}
+use Rattle.step_model.proofs.KeepsFacts.{as_built_keeps, break_keeps}
 use Rattle.step_model.proofs.KeepsOrder.{path_keeps}
 use Rattle.step_model.specs.Facts.{IsSound}
 use Rattle.step_model.specs.Image.{ImageState}
@@ -16,7 +16,7 @@ use Rattle.step_model.specs.Moves.{Calm, Fits, MayCome, Move, Path, after, befor
 use Rattle.step_model.specs.Now.{Mailbox, Now}
 use Rattle.step_model.specs.Order.{IsOrdered}
 use Rattle.step_model.specs.Rules.{Rules}
-use Rattle.step_model.specs.Step.{step}
+use Rattle.step_model.specs.AsBuilt.{step_as_built}
 use Rattle.session_model.specs.declared.event.Entry.{Entry}
 use Rattle.session_model.specs.declared.event.Event.{Event}
 use Rattle.session_model.specs.declared.event.Event.TheVariants.{Arrive, End, Lend, Burst, Drain}
@@ -30,66 +30,66 @@ use Rattle.session_laws.proofs.Always.{IsLaw, always}
 use Rattle.session_laws.proofs.EachThread.{Each, Holds, arrives_each, becomes, set_one}
 use Rattle.session_laws.proofs.Threads.{found}
 
-abbrev pub TermIsSound : Thread → Type 0
-TermIsSound thread = IsSound (split thread.term).0 (split thread.term).1
+abbrev pub TermIsSound : ℕ → Thread → Type 0
+TermIsSound most thread = IsSound most (split thread.term).0 (split thread.term).1
 
-abbrev All_have : List (Option Thread) → Type 0
-All_have threads = Each TermIsSound threads
+abbrev All_have : ℕ → List (Option Thread) → Type 0
+All_have most threads = Each (TermIsSound most) threads
 
-plugged : (c : Context) (f : Focus) → IsSound c f → IsSound (split (plug c (At f))).0 (split (plug c (At f))).1
-plugged c f h = subst (λ (s : Context × Focus). IsSound s.0 s.1) (sym (split-plug c f)) h
+plugged : (most : ℕ) (c : Context) (f : Focus) → IsSound most c f → IsSound most (split (plug c (At f))).0 (split (plug c (At f))).1
+plugged most c f h = subst (λ (s : Context × Focus). IsSound most s.0 s.1) (sym (split-plug c f)) h
 
-pub waiting : (mb : Mailbox) → TermIsSound (fresh mb)
-waiting mb = record { layers = tt; redex = refl }
+pub waiting : (most : ℕ) (mb : Mailbox) → TermIsSound most (fresh mb)
+waiting most mb = record { layers = tt; redex = refl }
 
-arrives_have : (w : World) (m : FromEmacs) → All_have w.threads → All_have (arrives w m).after.threads
-arrives_have w m h = arrives_each TermIsSound waiting (λ thread i m k. k) (λ thread n k. k) w m h
+arrives_have : (most : ℕ) (w : World) (m : FromEmacs) → All_have most w.threads → All_have most (arrives w m).after.threads
+arrives_have most w m h = arrives_each (TermIsSound most) (waiting most) (λ thread i m k. k) (λ thread n k. k) w m h
 
-pub interrupted_has : (n : ℕ) (thread : Thread) → TermIsSound thread → TermIsSound (interrupted n thread)
-interrupted_has zero thread h = h
-interrupted_has (suc n) thread h =
+pub interrupted_has : (most n : ℕ) (thread : Thread) → TermIsSound most thread → TermIsSound most (interrupted most n thread)
+interrupted_has most zero thread h = h
+interrupted_has most (suc n) thread h =
     let s = split thread.term in
-    let b = broken_at (may_open s.0) s.0 s.1 in
-    plugged b.0 b.1 (break_keeps s.0 s.1 h)
+    let b = broken_at (may_open most s.0) s.0 s.1 in
+    plugged most b.0 b.1 (break_keeps most s.0 s.1 h)
 
-lends_have : (w : World) (seat t : ℕ) (o : Option Thread) → thread_at w t ≡ o → All_have w.threads → All_have (lends_thread w seat t o).after.threads
-lends_have w seat t None e h = h
-lends_have w seat t (Some thread) e h = becomes TermIsSound w.threads t thread (record (interrupted thread.interrupts thread) { lent = Some seat }) (found w.threads t thread e) (interrupted_has thread.interrupts thread) h
+lends_have : (most : ℕ) (w : World) (seat t : ℕ) (o : Option Thread) → thread_at w t ≡ o → All_have most w.threads → All_have most (lends_thread most w seat t o).after.threads
+lends_have most w seat t None e h = h
+lends_have most w seat t (Some thread) e h = becomes (TermIsSound most) w.threads t thread (record (interrupted most thread.interrupts thread) { lent = Some seat }) (found w.threads t thread e) (interrupted_has most thread.interrupts thread) h
 
-settles_have : (w : World) (t : ℕ) (thread : Thread) (n : Now) (b : Bool) → slice_get w.threads t ≡ Some (Some thread) → (TermIsSound thread → IsSound n.context n.redex) → All_have w.threads → All_have (settles w t thread n b).after.threads
-settles_have w t thread n false e keep h = becomes TermIsSound w.threads t thread (after_step thread n) e (λ k. plugged n.context n.redex (keep k)) h
-settles_have w t thread n true e keep h = set_one TermIsSound w.threads t None (slice_get_within w.threads t (Some thread) e) tt h
+settles_have : (most : ℕ) (w : World) (t : ℕ) (thread : Thread) (n : Now) (b : Bool) → slice_get w.threads t ≡ Some (Some thread) → (TermIsSound most thread → IsSound most n.context n.redex) → All_have most w.threads → All_have most (settles w t thread n b).after.threads
+settles_have most w t thread n false e keep h = becomes (TermIsSound most) w.threads t thread (after_step thread n) e (λ k. plugged most n.context n.redex (keep k)) h
+settles_have most w t thread n true e keep h = set_one (TermIsSound most) w.threads t None (slice_get_within w.threads t (Some thread) e) tt h
 
-step_has : (rules : Rules) (w : World) (t : ℕ) (o : Option Thread) → thread_at w t ≡ o → All_have w.threads → All_have (step_of rules w t o).after.threads
+step_has : (rules : Rules) (w : World) (t : ℕ) (o : Option Thread) → thread_at w t ≡ o → All_have rules.built.levels w.threads → All_have rules.built.levels (step_of rules w t o).after.threads
 step_has rules w t None e h = h
 step_has rules w t (Some thread) e h =
-    let n = step rules (now_of w t thread) in
-    settles_have w t thread n (is_over t n) (found w.threads t thread e) (step_keeps rules (now_of w t thread)) h
+    let n = step_as_built rules.built rules (now_of w t thread) in
+    settles_have rules.built.levels w t thread n (is_over t n) (found w.threads t thread e) (as_built_keeps rules.built rules (now_of w t thread)) h
 
-steps_have : (rules : Rules) (n t : ℕ) (w : World) → All_have w.threads → All_have (steps rules n t w).after.threads
+steps_have : (rules : Rules) (n t : ℕ) (w : World) → All_have rules.built.levels w.threads → All_have rules.built.levels (steps rules n t w).after.threads
 steps_have rules zero t w h = h
 steps_have rules (suc n) t w h = steps_have rules n t (steps_once rules w t).after (step_has rules w t (thread_at w t) refl h)
 
-unlent_has : (w : World) (t : ℕ) (o : Option Thread) → thread_at w t ≡ o → All_have w.threads → All_have (unlent w t o).threads
-unlent_has w t None e h = h
-unlent_has w t (Some thread) e h = becomes TermIsSound w.threads t thread (record thread { lent = None }) (found w.threads t thread e) (λ k. k) h
+unlent_has : (most : ℕ) (w : World) (t : ℕ) (o : Option Thread) → thread_at w t ≡ o → All_have most w.threads → All_have most (unlent w t o).threads
+unlent_has most w t None e h = h
+unlent_has most w t (Some thread) e h = becomes (TermIsSound most) w.threads t thread (record thread { lent = None }) (found w.threads t thread e) (λ k. k) h
 
-happens_has : (rules : Rules) (w : World) (seat : ℕ) (e : Event) → All_have w.threads → All_have (happens rules w seat e).after.threads
-happens_has rules w seat (Arrive m) h = arrives_have w m h
+happens_has : (rules : Rules) (w : World) (seat : ℕ) (e : Event) → All_have rules.built.levels w.threads → All_have rules.built.levels (happens rules w seat e).after.threads
+happens_has rules w seat (Arrive m) h = arrives_have rules.built.levels w m h
 happens_has rules w seat End h = h
-happens_has rules w seat (Lend t) h = lends_have w seat t (thread_at w t) refl h
+happens_has rules w seat (Lend t) h = lends_have rules.built.levels w seat t (thread_at w t) refl h
 happens_has rules w seat (Burst t n) h =
-    let v : World = (steps rules n t w).after in unlent_has v t (thread_at v t) refl (steps_have rules n t w h)
+    let v : World = (steps rules n t w).after in unlent_has rules.built.levels v t (thread_at v t) refl (steps_have rules n t w h)
 happens_has rules w seat (Drain k) h = h
 
-run_has : (rules : Rules) (j : List Entry) (w : World) → All_have w.threads → All_have (run_from rules w j).after.threads
+run_has : (rules : Rules) (j : List Entry) (w : World) → All_have rules.built.levels w.threads → All_have rules.built.levels (run_from rules w j).after.threads
 run_has rules [] w h = h
 run_has rules (e ∷ j) w h = run_has rules j (next rules w e).after (happens_has rules w e.seat e.event h)
 
-start_has : (image : ImageState) → All_have (start image).threads
-start_has image zero = tt
-start_has image (suc zero) = waiting []
-start_has image (suc (suc t)) = tt
+start_has : (most : ℕ) (image : ImageState) → All_have most (start image).threads
+start_has most image zero = tt
+start_has most image (suc zero) = waiting most []
+start_has most image (suc (suc t)) = tt
 
 -- ---- marks
 
@@ -130,6 +130,6 @@ law = record {
 
 pub facts_hold : (rules : Rules) (image : ImageState) (j : List Entry) → FactsHold rules image j
 facts_hold rules image j = record {
-  sound = λ t thread e. subst (Holds TermIsSound) (found (run rules image j).threads t thread e) (run_has rules j (start image) (start_has image) t);
+  sound = λ t thread e. subst (Holds (TermIsSound rules.built.levels)) (found (run rules image j).threads t thread e) (run_has rules j (start image) (start_has rules.built.levels image) t);
   ordered = λ t thread e. subst (λ o. SeenIsOrdered (seen o)) (found (run rules image j).threads t thread e) (always rules (λ past t ls x. SeenIsOrdered x) law image j t);
 }

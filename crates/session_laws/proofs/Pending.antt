@@ -12,7 +12,7 @@ use Rattle.rpc_messages.specs.declared.from_emacs.ThreadName.{ThreadName}
 use Rattle.rpc_messages.specs.declared.from_emacs.ThreadName.TheVariants as name
 use Rattle.step_model.specs.Now.{Now}
 use Rattle.step_model.specs.Rules.{Rules}
-use Rattle.step_model.specs.Step.{step}
+use Rattle.step_model.specs.AsBuilt.{step_as_built}
 use Rattle.session_model.specs.declared.event.Entry.{Entry}
 use Rattle.session_model.specs.declared.event.Event.{Event}
 use Rattle.session_model.specs.declared.event.Event.TheVariants.{Arrive, End, Lend, Burst, Drain}
@@ -150,18 +150,18 @@ some_pending : (n : ℕ) → tally (nat_lt 0 (suc n)) ≡ 1
 some_pending n = grind (arith, nat_tests)
 
 -- a loan takes one interrupt, where there is one
-interrupted_one : (n : ℕ) (thread : Thread) → thread.interrupts ≡ n → (interrupted n thread).interrupts + tally (nat_lt 0 n) ≡ n
-interrupted_one zero thread e = omega (arith, e)
-interrupted_one (suc n) thread e = omega (arith, some_pending n)
+interrupted_one : (most n : ℕ) (thread : Thread) → thread.interrupts ≡ n → (interrupted most n thread).interrupts + tally (nat_lt 0 n) ≡ n
+interrupted_one most zero thread e = omega (arith, e)
+interrupted_one most (suc n) thread e = omega (arith, some_pending n)
 
-lends_count : (w : World) (seat u t : ℕ) (o : Option Thread) → thread_at w u ≡ o → Counts 0 (tally ((u == t) && nat_lt 0 (pending t w))) (slice_get w.threads t) (slice_get (lends_thread w seat u o).after.threads t)
-lends_count w seat u t None e =
+lends_count : (most : ℕ) (w : World) (seat u t : ℕ) (o : Option Thread) → thread_at w u ≡ o → Counts 0 (tally ((u == t) && nat_lt 0 (pending t w))) (slice_get w.threads t) (slice_get (lends_thread most w seat u o).after.threads t)
+lends_count most w seat u t None e =
     subst (λ b. Counts 0 b (slice_get w.threads t) (slice_get w.threads t)) (sym (not_live u t (nat_lt 0 (pending t w)) (λ is. ap (λ v. nat_lt 0 (pending v w)) (sym is) ∙ ap (λ o. nat_lt 0 (pending_in o)) e))) (counts_same (slice_get w.threads t))
-lends_count w seat u t (Some thread) e =
+lends_count most w seat u t (Some thread) e =
     let at = found w.threads u thread e in
-    let now : Thread = record (interrupted thread.interrupts thread) { lent = Some seat } in
+    let now : Thread = record (interrupted most thread.interrupts thread) { lent = Some seat } in
     by_number w.threads u t (Some now) 0 (tally ((u == t) && nat_lt 0 (pending t w))) (slice_get_within w.threads u (Some thread) at)
-    (λ is. subst (λ x. Counts 0 (tally ((u == t) && nat_lt 0 (pending t w))) x (Some (Some now))) (sym (ap (slice_get w.threads) (sym is) ∙ at)) (live_not_over thread, omega (arith, here_test u t (nat_lt 0 (pending t w)) is, ap (λ v. tally (nat_lt 0 (pending v w))) (sym is) ∙ ap (λ o. tally (nat_lt 0 (pending_in o))) e, interrupted_one thread.interrupts thread refl)))
+    (λ is. subst (λ x. Counts 0 (tally ((u == t) && nat_lt 0 (pending t w))) x (Some (Some now))) (sym (ap (slice_get w.threads) (sym is) ∙ at)) (live_not_over thread, omega (arith, here_test u t (nat_lt 0 (pending t w)) is, ap (λ v. tally (nat_lt 0 (pending v w))) (sym is) ∙ ap (λ o. tally (nat_lt 0 (pending_in o))) e, interrupted_one most thread.interrupts thread refl)))
     (λ ne. subst (λ b. Counts 0 b (slice_get w.threads t) (slice_get w.threads t)) (sym (not_here u t (nat_lt 0 (pending t w)) ne)) (counts_same (slice_get w.threads t)))
 
 -- ---- bursts
@@ -172,7 +172,7 @@ settles_count w u t thread n true e = ends w.threads u t thread e
 
 step_count : (rules : Rules) (w : World) (u t : ℕ) (o : Option Thread) → thread_at w u ≡ o → Counts 0 0 (slice_get w.threads t) (slice_get (step_of rules w u o).after.threads t)
 step_count rules w u t None e = counts_same (slice_get w.threads t)
-step_count rules w u t (Some thread) e = let n = step rules (now_of w u thread) in settles_count w u t thread n (is_over u n) (found w.threads u thread e)
+step_count rules w u t (Some thread) e = let n = step_as_built rules.built rules (now_of w u thread) in settles_count w u t thread n (is_over u n) (found w.threads u thread e)
 
 steps_count : (rules : Rules) (n u t : ℕ) (w : World) → Counts 0 0 (slice_get w.threads t) (slice_get (steps rules n u w).after.threads t)
 steps_count rules zero u t w = counts_same (slice_get w.threads t)
@@ -192,7 +192,7 @@ bursts_count rules n u t w =
 pub happens_count : (rules : Rules) (w : World) (seat t : ℕ) (e : Event) → Counts (tally (interrupts_thread t w e)) (tally (takes_interrupt t w e)) (slice_get w.threads t) (slice_get (happens rules w seat e).after.threads t)
 happens_count rules w seat t (Arrive m) = arrives_count w t m
 happens_count rules w seat t End = counts_same (slice_get w.threads t)
-happens_count rules w seat t (Lend u) = lends_count w seat u t (thread_at w u) refl
+happens_count rules w seat t (Lend u) = lends_count rules.built.levels w seat u t (thread_at w u) refl
 happens_count rules w seat t (Burst u n) = bursts_count rules n u t w
 happens_count rules w seat t (Drain k) = counts_same (slice_get w.threads t)
 

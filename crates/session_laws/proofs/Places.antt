@@ -6,7 +6,7 @@ use Rattle.rpc_messages.specs.declared.from_emacs.ThreadName.{ThreadName}
 use Rattle.rpc_messages.specs.declared.from_emacs.ThreadName.TheVariants as name
 use Rattle.step_model.specs.Now.{Now}
 use Rattle.step_model.specs.Rules.{Rules}
-use Rattle.step_model.specs.Step.{step}
+use Rattle.step_model.specs.AsBuilt.{step_as_built}
 use Rattle.session_model.specs.declared.event.Event.{Event}
 use Rattle.session_model.specs.declared.event.Event.TheVariants.{Arrive, End, Lend, Burst, Drain}
 use Rattle.session_model.specs.Arriving.{answers, arrives, interrupts, named, requests, requests_by}
@@ -38,16 +38,16 @@ arrives_places w (mail.ReturnString thread tag text) = answers_places w (named w
 arrives_places w (mail.Return thread tag value) = answers_places w (named w thread) (mail.Return thread tag value) (thread_at w (named w thread))
 arrives_places w (mail.Unreadable packet text) = refl
 
-lends_places : (w : World) (seat t : ℕ) (o : Option Thread) → (lends_thread w seat t o).after.places ≡ w.places
-lends_places w seat t (Some thread) = refl
-lends_places w seat t None = refl
+lends_places : (most : ℕ) (w : World) (seat t : ℕ) (o : Option Thread) → (lends_thread most w seat t o).after.places ≡ w.places
+lends_places most w seat t (Some thread) = refl
+lends_places most w seat t None = refl
 
 settles_places : (w : World) (t : ℕ) (thread : Thread) (n : Now) (over : Bool) → (settles w t thread n over).after.places ≡ w.places
 settles_places w t thread n true = refl
 settles_places w t thread n false = refl
 
 step_places : (rules : Rules) (w : World) (t : ℕ) (o : Option Thread) → (step_of rules w t o).after.places ≡ w.places
-step_places rules w t (Some thread) = let n : Now = step rules (now_of w t thread) in settles_places w t thread n (is_over t n)
+step_places rules w t (Some thread) = let n : Now = step_as_built rules.built rules (now_of w t thread) in settles_places w t thread n (is_over t n)
 step_places rules w t None = refl
 
 steps_places : (rules : Rules) (n t : ℕ) (w : World) → (steps rules n t w).after.places ≡ w.places
@@ -61,7 +61,7 @@ unlent_places w t None = refl
 pub happens_places : (rules : Rules) (w : World) (seat : ℕ) (e : Event) → (happens rules w seat e).after.places ≡ w.places
 happens_places rules w seat (Arrive m) = arrives_places w m
 happens_places rules w seat End = refl
-happens_places rules w seat (Lend t) = lends_places w seat t (thread_at w t)
+happens_places rules w seat (Lend t) = lends_places rules.built.levels w seat t (thread_at w t)
 happens_places rules w seat (Burst t n) =
     let v : World = (steps rules n t w).after in unlent_places v t (thread_at v t) ∙ steps_places rules n t w
 happens_places rules w seat (Drain k) = refl

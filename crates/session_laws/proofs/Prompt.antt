@@ -29,33 +29,30 @@ use Rattle.session_laws.proofs.Threads.{found, get-set_same, live_at}
 
 -- ---- the next loan
 
-broken_term : (n : ℕ) (thread : Thread) → 0 < n → (interrupted n thread).term ≡ broken thread.term
-broken_term zero thread lt = absurd (omega (arith, lt))
-broken_term (suc n) thread lt = refl
+broken_term : (most n : ℕ) (thread : Thread) → 0 < n → (interrupted most n thread).term ≡ broken most thread.term
+broken_term most zero thread lt = absurd (omega (arith, lt))
+broken_term most (suc n) thread lt = refl
 
-one_less : (n : ℕ) (thread : Thread) → 0 < n → (interrupted n thread).interrupts + 1 ≡ n
-one_less zero thread lt = absurd (omega (arith, lt))
-one_less (suc n) thread lt = omega arith
+one_less : (most n : ℕ) (thread : Thread) → 0 < n → (interrupted most n thread).interrupts + 1 ≡ n
+one_less most zero thread lt = absurd (omega (arith, lt))
+one_less most (suc n) thread lt = omega arith
 
-not_below : (n m : ℕ) → nat_lt n m ≡ false → m ≤ n
-not_below n m e = elim (cases_lt n m) [ inl less ↦ absurd (let f = lt-ltb n m less in let h : true ≡ false = sym f ∙ e in cc) | inr above ↦ above ]
+says : (n t : ℕ) (b : Bool) → 0 < n → (broke_if t n b ≡ Broke t ∷ []) ⊎ (b ≡ false)
+says zero t b lt = absurd (omega (arith, lt))
+says (suc n) t true lt = inl refl
+says (suc n) t false lt = inr refl
 
-says : (n t k : ℕ) (b : Bool) → 0 < n → nat_lt k max_levels ≡ b → (broke_if t n b ≡ Broke t ∷ []) ⊎ (max_levels ≤ k)
-says zero t k b lt e = absurd (omega (arith, lt))
-says (suc n) t k true lt e = inl refl
-says (suc n) t k false lt e = inr (not_below k max_levels e)
-
-takes_interrupt : (w : World) (seat t : ℕ) (thread : Thread) → thread_at w t ≡ Some thread → 0 < thread.interrupts → TakesInterrupt w seat t thread
-takes_interrupt w seat t thread e lt =
+takes_interrupt : (most : ℕ) (w : World) (seat t : ℕ) (thread : Thread) → thread_at w t ≡ Some thread → 0 < thread.interrupts → TakesInterrupt most w seat t thread
+takes_interrupt most w seat t thread e lt =
     let at = found w.threads t thread e in
-    let new : Thread = record (interrupted thread.interrupts thread) { lent = Some seat } in
-    let is : lends w seat t ≡ lends_thread w seat t (Some thread) = ap (lends_thread w seat t) e in
+    let new : Thread = record (interrupted most thread.interrupts thread) { lent = Some seat } in
+    let is : lends most w seat t ≡ lends_thread most w seat t (Some thread) = ap (lends_thread most w seat t) e in
     record {
       now = new;
       is_now = ap (λ (h : Happened). thread_at h.after t) is ∙ live_at (slice_set w.threads t (Some new)) t new (get-set_same w.threads t (Some new) (slice_get_within w.threads t (Some thread) at));
-      broken_term = broken_term thread.interrupts thread lt;
-      one_less = one_less thread.interrupts thread lt;
-      says = subst (λ (h : Happened). (h.labels ≡ Broke t ∷ []) ⊎ (max_levels ≤ levels (split thread.term).0)) (sym is) (says thread.interrupts t (levels (split thread.term).0) (may_open (split thread.term).0) lt refl);
+      broken_term = broken_term most thread.interrupts thread lt;
+      one_less = one_less most thread.interrupts thread lt;
+      says = subst (λ (h : Happened). (h.labels ≡ Broke t ∷ []) ⊎ (may_open most (split thread.term).0 ≡ false)) (sym is) (says thread.interrupts t (may_open most (split thread.term).0) lt);
     }
 
 -- ---- bursts
@@ -108,7 +105,7 @@ module _ (rules : Rules) (t : ℕ) where
   stays_unlent w seat (Arrive m) e h = received_loan w.threads (arrives w m).after.threads t (slice_get w.threads t) (slice_get (arrives w m).after.threads t) refl refl (received w m) h
   stays_unlent w seat End e h = h
   stays_unlent w seat (Drain k) e h = h
-  stays_unlent w seat (Lend u) e h = ap loan ((lend_alone w seat u).others t (λ f. other_loan u e (sym f))) ∙ h
+  stays_unlent w seat (Lend u) e h = ap loan ((lend_alone rules.built.levels w seat u).others t (λ f. other_loan u e (sym f))) ∙ h
   stays_unlent w seat (Burst u n) e h =
       ⊎_elim
       (λ (same : u ≡ t). subst (λ v. loan (slice_get (bursts rules w v n).after.threads t) ≡ None) (sym same) (burst_ends w n))
@@ -178,7 +175,7 @@ pub breaks_promptly : (rules : Rules) (w : World) (j : List Entry) (t : ℕ) →
 breaks_promptly rules w j t = record {
   pending_is = pending_is rules w j t;
   none_taken = none_taken rules w j t;
-  next_loan = λ seat thread e lt. takes_interrupt (run_from rules w j).after seat t thread e lt;
+  next_loan = λ seat thread e lt. takes_interrupt rules.built.levels (run_from rules w j).after seat t thread e lt;
   one_burst = λ legal none. one_made rules t j w legal none;
   none_unless_lent = λ legal none h. (none_made rules t j w legal none (to_none (slice_get w.threads t) h)).0;
 }

@@ -7,15 +7,15 @@ use Rattle.rpc_messages.specs.declared.from_emacs.FromEmacs.{FromEmacs}
 use Rattle.term_model.specs.declared.focus.Focus.{Focus}
 use Rattle.term_model.specs.Breaks.{broken_at, may_open}
 use Rattle.term_model.specs.Term.{Context, split, split-plug}
-use Rattle.step_model.proofs.KeepsFacts.{step_keeps}
-use Rattle.step_model.proofs.KeepsRoom.{break_rooms, step_rooms, weaker}
+use Rattle.step_model.proofs.KeepsFacts.{as_built_keeps}
+use Rattle.step_model.proofs.KeepsRoom.{as_built_rooms, break_rooms, weaker}
 use Rattle.step_model.proofs.RoomLemmas.{limit-least}
 use Rattle.step_model.specs.Facts.{IsSound, bares}
 use Rattle.step_model.specs.Image.{ImageState}
 use Rattle.step_model.specs.Now.{Now}
 use Rattle.step_model.specs.Rooms.{HasRoom, HasRoomBroken}
 use Rattle.step_model.specs.Rules.{Rules}
-use Rattle.step_model.specs.Step.{step}
+use Rattle.step_model.specs.AsBuilt.{step_as_built}
 use Rattle.session_model.specs.declared.event.Entry.{Entry}
 use Rattle.session_model.specs.declared.event.Event.{Event}
 use Rattle.session_model.specs.declared.event.Event.TheVariants.{Arrive, End, Lend, Burst, Drain}
@@ -36,30 +36,30 @@ abbrev TermHasRoomBroken : Thread → Type 0
 TermHasRoomBroken thread = HasRoomBroken (split thread.term).0 (split thread.term).1
 
 -- a thread has room, one layer less while it is lent
-abbrev Roomy : Thread → Type 0
-Roomy thread = TermIsSound thread × TermHasRoomBroken thread × (thread.lent ≡ None → TermHasRoom thread)
+abbrev Roomy : ℕ → Thread → Type 0
+Roomy most thread = TermIsSound most thread × TermHasRoomBroken thread × (thread.lent ≡ None → TermHasRoom thread)
 
 -- a thread has room though it may be lent
-abbrev Full : Thread → Type 0
-Full thread = TermIsSound thread × TermHasRoom thread
+abbrev Full : ℕ → Thread → Type 0
+Full most thread = TermIsSound most thread × TermHasRoom thread
 
 unbroken : (c : Context) (f : Focus) → HasRoom c f → HasRoomBroken c f
 unbroken c f h = record { layers = h.layers; redex = weaker f (bares c) h.redex }
 
-roomy : (thread : Thread) → Full thread → Roomy thread
-roomy thread h = (h.0, unbroken (split thread.term).0 (split thread.term).1 h.1, λ e. h.1)
+roomy : (most : ℕ) (thread : Thread) → Full most thread → Roomy most thread
+roomy most thread h = (h.0, unbroken (split thread.term).0 (split thread.term).1 h.1, λ e. h.1)
 
-new : (mb : List (ℕ × FromEmacs)) → Roomy (fresh mb)
-new mb = roomy (fresh mb) (waiting mb, record { layers = tt; redex = omega (arith, limit-least 0) })
+new : (most : ℕ) (mb : List (ℕ × FromEmacs)) → Roomy most (fresh mb)
+new most mb = roomy most (fresh mb) (waiting most mb, record { layers = tt; redex = omega (arith, limit-least 0) })
 
 -- ---- loans
 
-broken_room : (n : ℕ) (thread : Thread) → TermHasRoom thread → TermHasRoomBroken (interrupted n thread)
-broken_room zero thread h = unbroken (split thread.term).0 (split thread.term).1 h
-broken_room (suc n) thread h =
+broken_room : (most n : ℕ) (thread : Thread) → TermHasRoom thread → TermHasRoomBroken (interrupted most n thread)
+broken_room most zero thread h = unbroken (split thread.term).0 (split thread.term).1 h
+broken_room most (suc n) thread h =
     let s = split thread.term in
-    let b = broken_at (may_open s.0) s.0 s.1 in
-    subst (λ (x : Context × Focus). HasRoomBroken x.0 x.1) (sym (split-plug b.0 b.1)) (break_rooms s.0 s.1 h)
+    let b = broken_at (may_open most s.0) s.0 s.1 in
+    subst (λ (x : Context × Focus). HasRoomBroken x.0 x.1) (sym (split-plug b.0 b.1)) (break_rooms most s.0 s.1 h)
 
 not_lent : (a b : Bool) (o : Option ℕ) → a && (b && not (is_some o)) ≡ true → o ≡ None
 not_lent a b None e = refl
@@ -70,72 +70,72 @@ not_lent false b (Some seat) e = absurd (cc)
 lendable : (w : World) (t : ℕ) (thread : Thread) → thread_at w t ≡ Some thread → IsTrue (is_ready w t) → thread.lent ≡ None
 lendable w t thread e may = not_lent (not w.closed) (is_active thread) thread.lent (sym (ap (λ o. not w.closed && option_map_or is_lendable o false) e) ∙ may)
 
-lends_roomy : (w : World) (seat t : ℕ) (o : Option Thread) → thread_at w t ≡ o → IsTrue (is_ready w t) → Each Roomy w.threads → Each Roomy (lends_thread w seat t o).after.threads
-lends_roomy w seat t None e may h = h
-lends_roomy w seat t (Some thread) e may h =
-    becomes Roomy w.threads t thread (record (interrupted thread.interrupts thread) { lent = Some seat }) (found w.threads t thread e)
-    (λ k. (interrupted_has thread.interrupts thread k.0, broken_room thread.interrupts thread (k.2 (lendable w t thread e may)), λ f. absurd (none≢some (sym f)))) h
+lends_roomy : (most : ℕ) (w : World) (seat t : ℕ) (o : Option Thread) → thread_at w t ≡ o → IsTrue (is_ready w t) → Each (Roomy most) w.threads → Each (Roomy most) (lends_thread most w seat t o).after.threads
+lends_roomy most w seat t None e may h = h
+lends_roomy most w seat t (Some thread) e may h =
+    becomes (Roomy most) w.threads t thread (record (interrupted most thread.interrupts thread) { lent = Some seat }) (found w.threads t thread e)
+    (λ k. (interrupted_has most thread.interrupts thread k.0, broken_room most thread.interrupts thread (k.2 (lendable w t thread e may)), λ f. absurd (none≢some (sym f)))) h
 
 -- ---- bursts
 
 -- every thread has room, and thread t has it though it is lent
-record Stepped (t : ℕ) (threads : List (Option Thread)) : Type 0 where
-  each : Each Roomy threads
-  mine : Holds Full (slice_get threads t)
+record Stepped (most t : ℕ) (threads : List (Option Thread)) : Type 0 where
+  each : Each (Roomy most) threads
+  mine : Holds (Full most) (slice_get threads t)
 
-stepped : (n : Now) (thread : Thread) → IsSound n.context n.redex → HasRoom n.context n.redex → Full (after_step thread n)
-stepped n thread s h =
+stepped : (most : ℕ) (n : Now) (thread : Thread) → IsSound most n.context n.redex → HasRoom n.context n.redex → Full most (after_step thread n)
+stepped most n thread s h =
     let e = sym (split-plug n.context n.redex) in
-    (subst (λ (x : Context × Focus). IsSound x.0 x.1) e s, subst (λ (x : Context × Focus). HasRoom x.0 x.1) e h)
+    (subst (λ (x : Context × Focus). IsSound most x.0 x.1) e s, subst (λ (x : Context × Focus). HasRoom x.0 x.1) e h)
 
-settles_roomy : (w : World) (t : ℕ) (thread : Thread) (n : Now) (b : Bool) → slice_get w.threads t ≡ Some (Some thread) → Full (after_step thread n) → Each Roomy w.threads → Stepped t (settles w t thread n b).after.threads
-settles_roomy w t thread n false e full h = record {
-  each = set_one Roomy w.threads t (Some (after_step thread n)) (slice_get_within w.threads t (Some thread) e) (roomy (after_step thread n) full) h;
-  mine = subst (Holds Full) (sym (get-set_same w.threads t (Some (after_step thread n)) (slice_get_within w.threads t (Some thread) e))) full;
+settles_roomy : (most : ℕ) (w : World) (t : ℕ) (thread : Thread) (n : Now) (b : Bool) → slice_get w.threads t ≡ Some (Some thread) → Full most (after_step thread n) → Each (Roomy most) w.threads → Stepped most t (settles w t thread n b).after.threads
+settles_roomy most w t thread n false e full h = record {
+  each = set_one (Roomy most) w.threads t (Some (after_step thread n)) (slice_get_within w.threads t (Some thread) e) (roomy most (after_step thread n) full) h;
+  mine = subst (Holds (Full most)) (sym (get-set_same w.threads t (Some (after_step thread n)) (slice_get_within w.threads t (Some thread) e))) full;
 }
-settles_roomy w t thread n true e full h = record {
-  each = set_one Roomy w.threads t None (slice_get_within w.threads t (Some thread) e) tt h;
-  mine = subst (Holds Full) (sym (get-set_same w.threads t None (slice_get_within w.threads t (Some thread) e))) tt;
+settles_roomy most w t thread n true e full h = record {
+  each = set_one (Roomy most) w.threads t None (slice_get_within w.threads t (Some thread) e) tt h;
+  mine = subst (Holds (Full most)) (sym (get-set_same w.threads t None (slice_get_within w.threads t (Some thread) e))) tt;
 }
 
-step_roomy : (rules : Rules) (w : World) (t : ℕ) (o : Option Thread) → thread_at w t ≡ o → Each Roomy w.threads → Stepped t (step_of rules w t o).after.threads
-step_roomy rules w t None e h = record { each = h; mine = of_none Full w.threads t e }
+step_roomy : (rules : Rules) (w : World) (t : ℕ) (o : Option Thread) → thread_at w t ≡ o → Each (Roomy rules.built.levels) w.threads → Stepped rules.built.levels t (step_of rules w t o).after.threads
+step_roomy rules w t None e h = record { each = h; mine = of_none (Full rules.built.levels) w.threads t e }
 step_roomy rules w t (Some thread) e h =
     let now = now_of w t thread in
-    let k : Roomy thread = subst (Holds Roomy) (found w.threads t thread e) (h t) in
-    settles_roomy w t thread (step rules now) (is_over t (step rules now)) (found w.threads t thread e) (stepped (step rules now) thread (step_keeps rules now k.0) (step_rooms rules now k.0 k.1)) h
+    let k : Roomy rules.built.levels thread = subst (Holds (Roomy rules.built.levels)) (found w.threads t thread e) (h t) in
+    settles_roomy rules.built.levels w t thread (step_as_built rules.built rules now) (is_over t (step_as_built rules.built rules now)) (found w.threads t thread e) (stepped rules.built.levels (step_as_built rules.built rules now) thread (as_built_keeps rules.built rules now k.0) (as_built_rooms rules.built rules now k.0 k.1)) h
 
-steps_roomy : (rules : Rules) (n t : ℕ) (w : World) → Each Roomy w.threads → Stepped t (steps rules (suc n) t w).after.threads
+steps_roomy : (rules : Rules) (n t : ℕ) (w : World) → Each (Roomy rules.built.levels) w.threads → Stepped rules.built.levels t (steps rules (suc n) t w).after.threads
 steps_roomy rules zero t w h = step_roomy rules w t (thread_at w t) refl h
 steps_roomy rules (suc n) t w h = steps_roomy rules n t (steps_once rules w t).after (step_roomy rules w t (thread_at w t) refl h).each
 
-unlent_roomy : (w : World) (t : ℕ) (o : Option Thread) → thread_at w t ≡ o → Stepped t w.threads → Each Roomy (unlent w t o).threads
-unlent_roomy w t None e h = h.each
-unlent_roomy w t (Some thread) e h =
+unlent_roomy : (most : ℕ) (w : World) (t : ℕ) (o : Option Thread) → thread_at w t ≡ o → Stepped most t w.threads → Each (Roomy most) (unlent w t o).threads
+unlent_roomy most w t None e h = h.each
+unlent_roomy most w t (Some thread) e h =
     let at = found w.threads t thread e in
-    set_one Roomy w.threads t (Some (record thread { lent = None })) (slice_get_within w.threads t (Some thread) at) (roomy (record thread { lent = None }) (subst (Holds Full) at h.mine)) h.each
+    set_one (Roomy most) w.threads t (Some (record thread { lent = None })) (slice_get_within w.threads t (Some thread) at) (roomy most (record thread { lent = None }) (subst (Holds (Full most)) at h.mine)) h.each
 
-bursts_roomy : (rules : Rules) (n t : ℕ) (w : World) → 0 < n → Each Roomy w.threads → Each Roomy (bursts rules w t n).after.threads
+bursts_roomy : (rules : Rules) (n t : ℕ) (w : World) → 0 < n → Each (Roomy rules.built.levels) w.threads → Each (Roomy rules.built.levels) (bursts rules w t n).after.threads
 bursts_roomy rules zero t w lt h = absurd (omega (arith, lt))
-bursts_roomy rules (suc n) t w lt h = let v : World = (steps rules (suc n) t w).after in unlent_roomy v t (thread_at v t) refl (steps_roomy rules n t w h)
+bursts_roomy rules (suc n) t w lt h = let v : World = (steps rules (suc n) t w).after in unlent_roomy rules.built.levels v t (thread_at v t) refl (steps_roomy rules n t w h)
 
 -- ---- journals
 
-happens_roomy : (rules : Rules) (w : World) (seat : ℕ) (e : Event) → MayHappen rules w seat e → Each Roomy w.threads → Each Roomy (happens rules w seat e).after.threads
-happens_roomy rules w seat (Arrive m) may h = arrives_each Roomy new (λ thread i m k. k) (λ thread n k. k) w m h
+happens_roomy : (rules : Rules) (w : World) (seat : ℕ) (e : Event) → MayHappen rules w seat e → Each (Roomy rules.built.levels) w.threads → Each (Roomy rules.built.levels) (happens rules w seat e).after.threads
+happens_roomy rules w seat (Arrive m) may h = arrives_each (Roomy rules.built.levels) (new rules.built.levels) (λ thread i m k. k) (λ thread n k. k) w m h
 happens_roomy rules w seat End may h = h
-happens_roomy rules w seat (Lend t) may h = lends_roomy w seat t (thread_at w t) refl may h
+happens_roomy rules w seat (Lend t) may h = lends_roomy rules.built.levels w seat t (thread_at w t) refl may h
 happens_roomy rules w seat (Burst t n) may h = bursts_roomy rules n t w may.1 h
 happens_roomy rules w seat (Drain k) may h = h
 
-run_roomy : (rules : Rules) (j : List Entry) (w : World) → AreLegal rules w j → Each Roomy w.threads → Each Roomy (run_from rules w j).after.threads
+run_roomy : (rules : Rules) (j : List Entry) (w : World) → AreLegal rules w j → Each (Roomy rules.built.levels) w.threads → Each (Roomy rules.built.levels) (run_from rules w j).after.threads
 run_roomy rules [] w legal h = h
 run_roomy rules (e ∷ j) w legal h = run_roomy rules j (next rules w e).after legal.1 (happens_roomy rules w e.seat e.event legal.0 h)
 
-start_roomy : (image : ImageState) → Each Roomy (start image).threads
-start_roomy image zero = tt
-start_roomy image (suc zero) = new []
-start_roomy image (suc (suc t)) = tt
+start_roomy : (most : ℕ) (image : ImageState) → Each (Roomy most) (start image).threads
+start_roomy most image zero = tt
+start_roomy most image (suc zero) = new most []
+start_roomy most image (suc (suc t)) = tt
 
 pub have_room : (rules : Rules) (image : ImageState) (j : List Entry) → IsLegalFrom rules image j → HaveRoom rules image j
 have_room rules image j legal = record {
@@ -143,5 +143,5 @@ have_room rules image j legal = record {
   lent = λ t thread e. (mine t thread e).1;
 }
   where
-    mine : (t : ℕ) (thread : Thread) → thread_at (run rules image j) t ≡ Some thread → Roomy thread
-    mine t thread e = subst (Holds Roomy) (found (run rules image j).threads t thread e) (run_roomy rules j (start image) legal (start_roomy image) t)
+    mine : (t : ℕ) (thread : Thread) → thread_at (run rules image j) t ≡ Some thread → Roomy rules.built.levels thread
+    mine t thread e = subst (Holds (Roomy rules.built.levels)) (found (run rules image j).threads t thread e) (run_roomy rules j (start image) legal (start_roomy rules.built.levels image) t)

@@ -46,7 +46,10 @@ use Rattle.step_model.specs.CurrentPackage.{binds_package, bound_package}
 use Rattle.step_model.specs.Now.{Now, around, tells}
 use Rattle.step_model.specs.Perform.{outcome_of, after_leaving, answer_in, asks, assigns, assigns_or, breaks_if, brings, calls_again, cut_off, enters_if, exhausted_if, exits, finishes, given, gives, gives_in, goes, is_top, laid, lands, lays, lays_if, outward, package_bound, passes, perform, protects, protects_value, runs_action, runs_clause, runs_handler, runs_offer, sets, sets_or, takes, took, turned, written}
 use Rattle.step_model.specs.Rules.{Rules}
+use Rattle.step_model.proofs.AsBuiltLemmas.{either_way}
+use Rattle.step_model.specs.AsBuilt.{leaving, limited, step_as_built}
 use Rattle.step_model.specs.Step as the_step
+use Rattle.step_model.specs.Table.{row}
 use Rattle.step_model.specs.Step.{announced_at}
 
 -- a step of thread t that isn't over
@@ -70,11 +73,11 @@ exhausted_on t n false h = h
 
 laid_on : (t : ℕ) (n : Now) (o : Option Focus) → GoesOn t n → GoesOn t (laid n o)
 laid_on t n (Some f) h = h
-laid_on t n None h = exhausted_on t n (may_open n.context) h
+laid_on t n None h = exhausted_on t n (may_open n.most n.context) h
 
 lays_if_on : (t : ℕ) (n : Now) (b : Bool) (ps : List Plain) (found : Found) → GoesOn t n → GoesOn t (lays_if b n ps found)
 lays_if_on t n true ps found h = let e = wrap (room n.context) n.context ps found in laid_on t (around n e.around) e.redex h
-lays_if_on t n false ps found h = exhausted_on t (around n (cut_off n.context)) (may_open (cut_off n.context)) h
+lays_if_on t n false ps found h = exhausted_on t (around n (cut_off n.context)) (may_open n.most (cut_off n.context)) h
 
 lays_on : (t : ℕ) (n : Now) (ps : List Plain) (found : Found) → GoesOn t n → GoesOn t (lays n ps found)
 lays_on t n ps found h = lays_if_on t n (is_within n.context) ps found h
@@ -165,7 +168,7 @@ passes_of t n (frame.Ask kind tag ∷ c) o h = goes_on h
 
 protects_value_on : (t : ℕ) (n : Now) (o : Option Value) (cleanup : List Ast) → GoesOn t n → GoesOn t (protects_value n o cleanup)
 protects_value_on t n (Some v) cleanup h = h
-protects_value_on t n None cleanup h = exhausted_on t n (may_open n.context) h
+protects_value_on t n None cleanup h = exhausted_on t n (may_open n.most n.context) h
 
 protects_on : (t : ℕ) (n : Now) (space : ℕ) (e : Ast) (cleanup : List Ast) → GoesOn t n → GoesOn t (protects n space e cleanup)
 protects_on t n zero e cleanup h = protects_value_on t n (value_in e) cleanup h
@@ -173,7 +176,7 @@ protects_on t n (suc space) e cleanup h =
     goes_goes_on t (around (record n { serial = n.serial + 1 }) (frame.Protect n.serial cleanup ∷ n.context)) [] (look e) h
 
 asks_on : (t : ℕ) (n : Now) (space : ℕ) (kind : Ask) (text : List ℕ) → GoesOn t n → GoesOn t (asks n space kind text)
-asks_on t n zero kind text h = exhausted_on t n (may_open n.context) h
+asks_on t n zero kind text h = exhausted_on t n (may_open n.most n.context) h
 asks_on t n (suc space) kind text h = h
 
 takes_on : (t : ℕ) (n : Now) (p : Pattern) (o : Option (ℕ × FromEmacs)) → GoesOn t n → GoesOn t (takes n p o)
@@ -201,8 +204,8 @@ perform_of t n (act.Resumes f) h = goes_on h
 perform_of t n act.Passes h = passes_of t n n.context (outcome_of n.redex) h
 perform_of t n (act.Protects e cleanup) h = goes_on (protects_on t n (room n.context) e cleanup h)
 perform_of t n (act.Asks kind text) h = goes_on (asks_on t n (room n.context) kind text h)
-perform_of t n (act.Opens condition) h = enters_of t n (may_open n.context) condition h
-perform_of t n (act.Breaks o) h = breaks_of t n (may_open n.context) o h
+perform_of t n (act.Opens condition) h = enters_of t n (may_open n.most n.context) condition h
+perform_of t n (act.Breaks o) h = breaks_of t n (may_open n.most n.context) o h
 perform_of t n (act.Exits x) h = exits_of t n x.target x.bring h
 perform_of t n (act.Takes p) h = goes_on (takes_on t n p (first_accepted p n.mailbox) h)
 perform_of t n act.Closes h = goes_on h
@@ -221,7 +224,12 @@ announced_of t n (frame.Sldb m condition true ∷ c) (focus.Wait pattern.Rex) e 
     (h.0, λ over. absurd (no_layer (frame.Sldb m condition true) c (sym e ∙ h.1 over)))
 announced_of t n c f e h = h
 
-pub step_of_thread : (rules : Rules) (n : Now) → IsOf n.thread (the_step.step rules n)
+carried_of_thread : (n : Now) (a : Act) → IsOf n.thread (the_step.carried_out n a)
+carried_of_thread n a =
+    let d = perform (the_step.begun n) a in
+    announced_of n.thread d d.context d.redex refl (perform_of n.thread (the_step.begun n) a (refl, refl))
+
+pub step_of_thread : (rules : Rules) (n : Now) → IsOf n.thread (step_as_built rules.built rules n)
 step_of_thread rules n =
-    let d = perform (the_step.begun n) (the_step.act rules n) in
-    announced_of n.thread d d.context d.redex refl (perform_of n.thread (the_step.begun n) (the_step.act rules n) (refl, refl))
+    let m = limited rules.built n in
+    either_way (IsOf n.thread) rules.built rules n (carried_of_thread m (row rules m m.redex)) (carried_of_thread m (leaving n))

@@ -2,7 +2,7 @@
 use Rattle.std.specs.Prelude.{◌≡◌, ◌≤◌, ◌<◌, ◌⊎◌, ℕ, ◌+◌, ◌==◌, nat_lt, Bool, false, ◌&&◌, is_some, if◌then◌else◌, List, [], ◌∷◌, Option, Some, None}
 use Rattle.rpc_messages.specs.declared.from_emacs.FromEmacs.{FromEmacs}
 use Rattle.rpc_messages.specs.declared.from_emacs.FromEmacs.TheVariants as mail
-use Rattle.term_model.specs.Breaks.{broken, max_levels}
+use Rattle.term_model.specs.Breaks.{broken, may_open}
 use Rattle.term_model.specs.Label.{Broke}
 use Rattle.term_model.specs.Room.{levels}
 use Rattle.term_model.specs.Term.{split}
@@ -86,12 +86,12 @@ IsNotLent t w = (seat : ℕ) → IsLentTo seat (thread_at w t) → ⊥
 -- ---- the law
 
 -- a loan takes an interrupt of this thread, if it has one: it breaks the thread's term, and says so unless as many levels are open as there may be
-pub record TakesInterrupt (w : World) (seat t : ℕ) (thread : Thread) : Type 0 where
+pub record TakesInterrupt (most : ℕ) (w : World) (seat t : ℕ) (thread : Thread) : Type 0 where
   pub now : Thread
-  pub is_now : thread_at (lends w seat t).after t ≡ Some now
-  pub broken_term : now.term ≡ broken thread.term
+  pub is_now : thread_at (lends most w seat t).after t ≡ Some now
+  pub broken_term : now.term ≡ broken most thread.term
   pub one_less : now.interrupts + 1 ≡ thread.interrupts
-  pub says : ((lends w seat t).labels ≡ Broke t ∷ []) ⊎ (max_levels ≤ levels (split thread.term).0)
+  pub says : ((lends most w seat t).labels ≡ Broke t ∷ []) ⊎ (may_open most (split thread.term).0 ≡ false)
 
 -- from any world on, for any entries:
 pub record BreaksPromptly (rules : Rules) (w : World) (j : List Entry) (t : ℕ) : Type 0 where
@@ -99,7 +99,7 @@ pub record BreaksPromptly (rules : Rules) (w : World) (j : List Entry) (t : ℕ)
   pub pending_is : (thread : Thread) → thread_at (run_from rules w j).after t ≡ Some thread → thread.interrupts + taken rules t w j ≡ pending t w + arrived rules t w j
   -- without a loan of the thread nothing is taken, so an interrupt stays until the next loan, and that one takes it
   pub none_taken : loans t j ≡ 0 → taken rules t w j ≡ 0
-  pub next_loan : (seat : ℕ) (thread : Thread) → thread_at (run_from rules w j).after t ≡ Some thread → 0 < thread.interrupts → TakesInterrupt (run_from rules w j).after seat t thread
+  pub next_loan : (seat : ℕ) (thread : Thread) → thread_at (run_from rules w j).after t ≡ Some thread → 0 < thread.interrupts → TakesInterrupt rules.built.levels (run_from rules w j).after seat t thread
   -- where the entries are legal and don't lend the thread, it makes steps in one burst at most, and only if it was lent at first
   pub one_burst : AreLegal rules w j → loans t j ≡ 0 → (bursts_of t j ≤ 1) × (steps_of t j ≤ max_burst)
   pub none_unless_lent : AreLegal rules w j → loans t j ≡ 0 → IsNotLent t w → bursts_of t j ≡ 0

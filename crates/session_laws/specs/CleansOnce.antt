@@ -7,7 +7,7 @@ use Rattle.term_model.specs.Term.{Context, split}
 use Rattle.step_model.specs.Image.{ImageState}
 use Rattle.step_model.specs.Now.{Now}
 use Rattle.step_model.specs.Rules.{Rules}
-use Rattle.step_model.specs.Step.{step}
+use Rattle.step_model.specs.AsBuilt.{step_as_built}
 use Rattle.session_model.specs.declared.event.Entry.{Entry}
 use Rattle.session_model.specs.Journal.{labels, run}
 use Rattle.session_model.specs.World.{Thread, thread_at}
@@ -54,4 +54,4 @@ pub record CleansOnce (rules : Rules) (image : ImageState) (j : List Entry) : Ty
 
 -- where a step begins the cleanup of a protected form, that was the innermost one before the step
 abbrev pub CleansInnermost : Rules → Now → ℕ → Type 0
-CleansInnermost rules n k = begun n.thread k (step rules n).labels ≢ 0 → innermost_protected n.context ≡ Some k
+CleansInnermost rules n k = begun n.thread k (step_as_built rules.built rules n).labels ≢ 0 → innermost_protected n.context ≡ Some k

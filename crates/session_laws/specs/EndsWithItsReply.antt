@@ -7,7 +7,7 @@ use Rattle.term_model.specs.declared.kept.Outcome.TheVariants as outcome
 use Rattle.term_model.specs.Label.{Label, Ended}
 use Rattle.step_model.specs.Now.{Now}
 use Rattle.step_model.specs.Rules.{Rules}
-use Rattle.step_model.specs.Step.{step}
+use Rattle.step_model.specs.AsBuilt.{step_as_built}
 
 -- where one of these labels ends a request with a reply, this redex is that reply
 abbrev pub EndsOnly : Focus → List Label → Type 0
@@ -17,4 +17,4 @@ EndsOnly f (l ∷ ls) = EndsOnly f ls
 
 -- a step that ends a request with a reply found that reply as its redex
 abbrev pub EndsWithItsReply : Rules → Now → Type 0
-EndsWithItsReply rules n = EndsOnly n.redex (step rules n).labels
+EndsWithItsReply rules n = EndsOnly n.redex (step_as_built rules.built rules n).labels

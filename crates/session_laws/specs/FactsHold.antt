@@ -14,7 +14,7 @@ use Rattle.session_laws.specs.Seen.{state_in}
 -- waits and requests stand only in the top and in levels, saved exits lead outwards, running handlers are around; levels are numbered
 -- from the outside and are at most as many as there may be, and the serials of protected forms and cleanups differ and are below the next
 pub record FactsHold (rules : Rules) (image : ImageState) (j : List Entry) : Type 0 where
-  pub sound : (t : ℕ) (thread : Thread) → thread_at (run rules image j) t ≡ Some thread → IsSound (split thread.term).0 (split thread.term).1
+  pub sound : (t : ℕ) (thread : Thread) → thread_at (run rules image j) t ≡ Some thread → IsSound rules.built.levels (split thread.term).0 (split thread.term).1
   pub ordered : (t : ℕ) (thread : Thread) → thread_at (run rules image j) t ≡ Some thread → IsOrdered (state_in thread)
 
 -- in a legal journal: no redex has more layers around it than the limit, and one more where an interrupt was taken, while the thread is

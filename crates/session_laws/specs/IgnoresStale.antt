@@ -24,7 +24,7 @@ invoke_nth level place = form.List (form.Sym (codes "SWANK:INVOKE-NTH-RESTART-FO
 
 -- these rules take that form at its word: its function is served, and it says to invoke the restart at place N of level L
 pub record InvokeByForm (rules : Rules) : Type 0 where
-  pub served : (level place : ℤ) → rules.is_served (invoke_nth level place) ≡ true
+  pub served : (level place : ℤ) → rules.built.serves (invoke_nth level place) ≡ true
   pub says : (a : Asked) (level place : ℤ) → a.form ≡ invoke_nth level place → rules.command a ≡ InvokesNth level place
 
 -- where a thread's request is that form, and no level is open, L isn't the current level or that has no restart at place N, the thread's
@@ -42,7 +42,7 @@ pub record IgnoresStaleRequests (rules : Rules) (w : World) : Type 0 where
 -- form, where the rules take it at its word
 pub record IgnoresStale (rules : Rules) (w : World) : Type 0 where
   pub stale : (t : ℕ) (thread : Thread) (level place : ℤ) → thread_at w t ≡ Some thread → (split thread.term).1 ≡ focus.Rpc
-      → rules.is_served (asked (now_of w t thread)).form ≡ true → rules.command (asked (now_of w t thread)) ≡ InvokesNth level place
+      → rules.built.serves (asked (now_of w t thread)).form ≡ true → rules.command (asked (now_of w t thread)) ≡ InvokesNth level place
       → IsStale (current_level (split thread.term).0) level place
       → steps_once rules w t ≡ tells (with_thread w t (Some (answered_nil thread))) []
   pub by_form : InvokeByForm rules → IgnoresStaleRequests rules w

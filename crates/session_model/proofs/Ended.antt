@@ -6,7 +6,7 @@ use Rattle.rpc_messages.specs.declared.from_emacs.ThreadName.{ThreadName}
 use Rattle.rpc_messages.specs.declared.from_emacs.ThreadName.TheVariants as name
 use Rattle.step_model.specs.Now.{Now}
 use Rattle.step_model.specs.Rules.{Rules}
-use Rattle.step_model.specs.Step.{step}
+use Rattle.step_model.specs.AsBuilt.{step_as_built}
 use Rattle.session_model.specs.Arriving.{named, requests, requests_by, answers, interrupts, arrives}
 use Rattle.session_model.specs.Running.{lends_thread, now_of, settles, is_over, step_of, steps_once, steps, unlent, bursts}
 use Rattle.session_model.specs.World.{Thread, World, repl, thread_at}
@@ -35,16 +35,16 @@ arrives_ended w (mail.ReturnString thread tag text) = answers_ended w (named w t
 arrives_ended w (mail.Return thread tag value) = answers_ended w (named w thread) (mail.Return thread tag value) (thread_at w (named w thread))
 arrives_ended w (mail.Unreadable packet text) = refl
 
-pub lends_ended : (w : World) (seat t : ℕ) (o : Option Thread) → (lends_thread w seat t o).after.ended ≡ w.ended
-lends_ended w seat t (Some thread) = refl
-lends_ended w seat t None = refl
+pub lends_ended : (most : ℕ) (w : World) (seat t : ℕ) (o : Option Thread) → (lends_thread most w seat t o).after.ended ≡ w.ended
+lends_ended most w seat t (Some thread) = refl
+lends_ended most w seat t None = refl
 
 settles_ended : (w : World) (t : ℕ) (thread : Thread) (n : Now) (over : Bool) → (settles w t thread n over).after.ended ≡ w.ended
 settles_ended w t thread n true = refl
 settles_ended w t thread n false = refl
 
 step_ended : (rules : Rules) (w : World) (t : ℕ) (o : Option Thread) → (step_of rules w t o).after.ended ≡ w.ended
-step_ended rules w t (Some thread) = let n : Now = step rules (now_of w t thread) in settles_ended w t thread n (is_over t n)
+step_ended rules w t (Some thread) = let n : Now = step_as_built rules.built rules (now_of w t thread) in settles_ended w t thread n (is_over t n)
 step_ended rules w t None = refl
 
 steps_ended : (rules : Rules) (n t : ℕ) (w : World) → (steps rules n t w).after.ended ≡ w.ended

@@ -10,7 +10,7 @@ use Rattle.rpc_messages.specs.declared.from_emacs.ThreadName.{ThreadName}
 use Rattle.rpc_messages.specs.declared.from_emacs.ThreadName.TheVariants as name
 use Rattle.step_model.specs.Now.{Now}
 use Rattle.step_model.specs.Rules.{Rules}
-use Rattle.step_model.specs.Step.{step}
+use Rattle.step_model.specs.AsBuilt.{step_as_built}
 use Rattle.session_model.specs.Arriving.{named, posted, requests, requests_by, answers, interrupts, arrives}
 use Rattle.session_model.specs.Running.{interrupted, after_step, lends_thread, now_of, settles, is_over, step_of, steps_once, steps, unlent, bursts}
 use Rattle.session_model.specs.World.{Thread, World, fresh, repl, thread_in, thread_at}
@@ -109,16 +109,16 @@ arrives_free o w (mail.Unreadable packet text) h = h
 -- ---- loans
 
 -- nobody is lent, and then this thread is
-pub lends_free : (w : World) (seat t : ℕ) (x : Option Thread) → NoneLent None w.threads → NoneLent (Some t) (lends_thread w seat t x).after.threads
-lends_free w seat t (Some thread) h = set_free (Some t) w.threads t (Some (record (interrupted thread.interrupts thread) { lent = Some seat })) (λ ne. absurd (ne refl)) (λ u ne. h u (λ e. none-some u e))
-lends_free w seat t None h = λ u ne. h u (λ e. none-some u e)
+pub lends_free : (most : ℕ) (w : World) (seat t : ℕ) (x : Option Thread) → NoneLent None w.threads → NoneLent (Some t) (lends_thread most w seat t x).after.threads
+lends_free most w seat t (Some thread) h = set_free (Some t) w.threads t (Some (record (interrupted most thread.interrupts thread) { lent = Some seat })) (λ ne. absurd (ne refl)) (λ u ne. h u (λ e. none-some u e))
+lends_free most w seat t None h = λ u ne. h u (λ e. none-some u e)
 
 settles_free : (o : Option ℕ) (w : World) (t : ℕ) (thread : Thread) (n : Now) (over : Bool) → thread_at w t ≡ Some thread → NoneLent o w.threads → NoneLent o (settles w t thread n over).after.threads
 settles_free o w t thread n false is h = set_free o w.threads t (Some (after_step thread n)) (λ ne. subst IsFree is (h t ne)) h
 settles_free o w t thread n true is h = set_free o w.threads t None (λ ne. tt) h
 
 step_free : (o : Option ℕ) (rules : Rules) (w : World) (t : ℕ) (x : Option Thread) → thread_at w t ≡ x → NoneLent o w.threads → NoneLent o (step_of rules w t x).after.threads
-step_free o rules w t (Some thread) is h = let n : Now = step rules (now_of w t thread) in settles_free o w t thread n (is_over t n) is h
+step_free o rules w t (Some thread) is h = let n : Now = step_as_built rules.built rules (now_of w t thread) in settles_free o w t thread n (is_over t n) is h
 step_free o rules w t None is h = h
 
 steps_free : (o : Option ℕ) (rules : Rules) (n t : ℕ) (w : World) → NoneLent o w.threads → NoneLent o (steps rules n t w).after.threads

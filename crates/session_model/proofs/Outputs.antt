@@ -13,7 +13,7 @@ use Rattle.term_model.specs.Label.{Label, Routed, Refused, Out}
 use Rattle.step_model.specs.Image.{ImageState}
 use Rattle.step_model.specs.Now.{Now}
 use Rattle.step_model.specs.Rules.{Rules}
-use Rattle.step_model.specs.Step.{step}
+use Rattle.step_model.specs.AsBuilt.{step_as_built}
 use Rattle.session_model.specs.declared.event.Entry.{Entry}
 use Rattle.session_model.specs.declared.event.Event.{Event}
 use Rattle.session_model.specs.declared.event.Event.TheVariants.{Arrive, End, Lend, Burst, Drain}
@@ -67,16 +67,16 @@ arrives_writes w (mail.ReturnString thread tag text) = answers_writes w (named w
 arrives_writes w (mail.Return thread tag value) = answers_writes w (named w thread) (mail.Return thread tag value) (thread_at w (named w thread))
 arrives_writes w (mail.Unreadable packet text) = tells_writes w (Out (message.ReaderError packet text) ∷ [])
 
-lends_writes : (w : World) (seat t : ℕ) (o : Option Thread) → Writes w (lends_thread w seat t o)
-lends_writes w seat t (Some thread) = tells_writes w (broke_if t thread.interrupts (may_open (split thread.term).0))
-lends_writes w seat t None = silent_writes w
+lends_writes : (most : ℕ) (w : World) (seat t : ℕ) (o : Option Thread) → Writes w (lends_thread most w seat t o)
+lends_writes most w seat t (Some thread) = tells_writes w (broke_if t thread.interrupts (may_open most (split thread.term).0))
+lends_writes most w seat t None = silent_writes w
 
 settles_writes : (w : World) (t : ℕ) (thread : Thread) (n : Now) (over : Bool) → Writes w (settles w t thread n over)
 settles_writes w t thread n true = tells_writes w (n.labels ++ swept t n.mailbox)
 settles_writes w t thread n false = tells_writes w n.labels
 
 step_of_writes : (rules : Rules) (w : World) (t : ℕ) (o : Option Thread) → Writes w (step_of rules w t o)
-step_of_writes rules w t (Some thread) = let n : Now = step rules (now_of w t thread) in settles_writes w t thread n (is_over t n)
+step_of_writes rules w t (Some thread) = let n : Now = step_as_built rules.built rules (now_of w t thread) in settles_writes w t thread n (is_over t n)
 step_of_writes rules w t None = silent_writes w
 
 steps_writes : (rules : Rules) (n t : ℕ) (w : World) → Writes w (steps rules n t w)
@@ -91,7 +91,7 @@ unlent_writes w t None = silent_writes w
 happens_writes : (rules : Rules) (w : World) (seat : ℕ) (e : Event) → Writes w (happens rules w seat e)
 happens_writes rules w seat (Arrive m) = arrives_writes w m
 happens_writes rules w seat End = silent_writes w
-happens_writes rules w seat (Lend t) = lends_writes w seat t (thread_at w t)
+happens_writes rules w seat (Lend t) = lends_writes rules.built.levels w seat t (thread_at w t)
 happens_writes rules w seat (Burst t n) =
     then_writes w (steps rules n t w) (returns t) (steps_writes rules n t w) (λ v. unlent_writes v t (thread_at v t))
 happens_writes rules w seat (Drain k) = refl

@@ -47,20 +47,20 @@ break_goes_on true c (focus.Given o) mailbox = refl
 break_goes_on true c f mailbox = refl
 break_goes_on false c f mailbox = refl
 
-broken_goes_on : (t : Term) (mailbox : Mailbox) → waits_in_vain (split (broken t)).1 mailbox ≡ false
-broken_goes_on t mailbox =
+broken_goes_on : (most : ℕ) (t : Term) (mailbox : Mailbox) → waits_in_vain (split (broken most t)).1 mailbox ≡ false
+broken_goes_on most t mailbox =
     let s : Context × Focus = split t in
-    let b : Context × Focus = broken_at (may_open s.0) s.0 s.1 in
-    ap (λ (r : Context × Focus). waits_in_vain r.1 mailbox) (split-plug b.0 b.1) ∙ break_goes_on (may_open s.0) s.0 s.1 mailbox
+    let b : Context × Focus = broken_at (may_open most s.0) s.0 s.1 in
+    ap (λ (r : Context × Focus). waits_in_vain r.1 mailbox) (split-plug b.0 b.1) ∙ break_goes_on (may_open most s.0) s.0 s.1 mailbox
 
 -- of this thread only its loan is new
-abbrev lent_to : ℕ → Thread → Thread
-lent_to seat thread = record (interrupted thread.interrupts thread) { lent = Some seat }
+abbrev lent_to : ℕ → ℕ → Thread → Thread
+lent_to most seat thread = record (interrupted most thread.interrupts thread) { lent = Some seat }
 
 -- an active thread without interrupts could make a step before
-lent_goes_on : (thread : Thread) (n : ℕ) → thread.interrupts ≡ n → IsTrue (nat_lt 0 n || can_step thread) → IsTrue (can_step (record (interrupted n thread) { lent = Some 0 }))
-lent_goes_on thread zero e h = h
-lent_goes_on thread (suc n) e h = ap not (broken_goes_on thread.term thread.mailbox)
+lent_goes_on : (most : ℕ) (thread : Thread) (n : ℕ) → thread.interrupts ≡ n → IsTrue (nat_lt 0 n || can_step thread) → IsTrue (can_step (record (interrupted most n thread) { lent = Some 0 }))
+lent_goes_on most thread zero e h = h
+lent_goes_on most thread (suc n) e h = ap not (broken_goes_on most thread.term thread.mailbox)
 
 and-left : (a b : Bool) → IsTrue (a && b) → IsTrue a
 and-left true b h = refl
@@ -150,14 +150,14 @@ feeds_follow rules w c [] closed may not_ended = end_if (c.ends && not w.ended) 
     end_if false f = tt
 
 -- a thread that is ready, once it was lent
-is_lent_then : (w : World) (t : ℕ) (o : Option Thread) → thread_at w t ≡ o → w.closed ≡ false → IsTrue (option_map_or is_lendable o false)
-    → IsLentTo 0 (thread_in (lends_thread w 0 t o).after.threads t) × IsTrue (goes_on w.closed (thread_in (lends_thread w 0 t o).after.threads t))
-is_lent_then w t None e closed h = absurd (grind (arith, h))
-is_lent_then w t (Some thread) e closed h =
-    let new : Option Thread = Some (lent_to 0 thread) in
+is_lent_then : (most : ℕ) (w : World) (t : ℕ) (o : Option Thread) → thread_at w t ≡ o → w.closed ≡ false → IsTrue (option_map_or is_lendable o false)
+    → IsLentTo 0 (thread_in (lends_thread most w 0 t o).after.threads t) × IsTrue (goes_on w.closed (thread_in (lends_thread most w 0 t o).after.threads t))
+is_lent_then most w t None e closed h = absurd (grind (arith, h))
+is_lent_then most w t (Some thread) e closed h =
+    let new : Option Thread = Some (lent_to most 0 thread) in
     let at : thread_in (slice_set w.threads t new) t ≡ new = ap (λ o. option_map_or (λ x. x) o None) (get-set_same w.threads t new (within w.threads t thread e)) in
     subst (λ o. IsLentTo 0 o × IsTrue (goes_on w.closed o)) (sym at)
-    (refl, subst (λ b. IsTrue (not b && can_step (lent_to 0 thread))) (sym closed) (lent_goes_on thread thread.interrupts refl (and-left (is_active thread) (not (is_lent thread)) h)))
+    (refl, subst (λ b. IsTrue (not b && can_step (lent_to most 0 thread))) (sym closed) (lent_goes_on most thread thread.interrupts refl (and-left (is_active thread) (not (is_lent thread)) h)))
   where
     within : (threads : List (Option Thread)) (t : ℕ) (thread : Thread) → thread_in threads t ≡ Some thread → t < length threads
     within threads t thread e = inside (slice_get threads t) refl e
@@ -173,22 +173,22 @@ picks_follow rules w c None steps left found closed h = feeds_follow rules w c c
 picks_follow rules w c (Some t) zero left found closed h = tt
 picks_follow rules w c (Some t) (suc steps) left found closed h =
     let ready : IsTrue (is_ready w t) = find_passes (is_ready w) (in_order c.reached (length w.threads)) t found in
-    let lent : IsLentTo 0 (thread_in (lends_thread w 0 t (thread_at w t)).after.threads t) × IsTrue (goes_on w.closed (thread_in (lends_thread w 0 t (thread_at w t)).after.threads t))
-    = is_lent_then w t (thread_at w t) refl closed (and-right (not w.closed) (option_map_or is_lendable (thread_at w t) false) ready) in (
+    let lent : IsLentTo 0 (thread_in (lends_thread rules.built.levels w 0 t (thread_at w t)).after.threads t) × IsTrue (goes_on w.closed (thread_in (lends_thread rules.built.levels w 0 t (thread_at w t)).after.threads t))
+    = is_lent_then rules.built.levels w t (thread_at w t) refl closed (and-right (not w.closed) (option_map_or is_lendable (thread_at w t) false) ready) in (
       ready,
       record {
         may_arrive = h.may_arrive;
-        is_open = subst (IsOpenFor c.messages) (sym (lends_ended w 0 t (thread_at w t))) h.is_open;
-        is_runnable = (lent.0, subst (λ b. IsTrue (goes_on b (thread_in (lends_thread w 0 t (thread_at w t)).after.threads t))) (sym (lends_closed w 0 t (thread_at w t))) lent.1, some_left c.steps steps left);
+        is_open = subst (IsOpenFor c.messages) (sym (lends_ended rules.built.levels w 0 t (thread_at w t))) h.is_open;
+        is_runnable = (lent.0, subst (λ b. IsTrue (goes_on b (thread_in (lends_thread rules.built.levels w 0 t (thread_at w t)).after.threads t))) (sym (lends_closed rules.built.levels w 0 t (thread_at w t))) lent.1, some_left c.steps steps left);
       },
     )
   where
     some_left : (n m : ℕ) → n ≡ suc m → 0 < n
     some_left n m e = omega (arith, e)
 
-    lends_closed : (w : World) (seat t : ℕ) (o : Option Thread) → (lends_thread w seat t o).after.closed ≡ w.closed
-    lends_closed w seat t (Some thread) = refl
-    lends_closed w seat t None = refl
+    lends_closed : (most : ℕ) (w : World) (seat t : ℕ) (o : Option Thread) → (lends_thread most w seat t o).after.closed ≡ w.closed
+    lends_closed most w seat t (Some thread) = refl
+    lends_closed most w seat t None = refl
 
 any_follow : (rules : Rules) (w : World) (c : Cursor) (o : Option ℕ) → c.lent ≡ o → w.closed ≡ false → Stands w c → Follows rules w (runs rules w c o)
 any_follow rules w c None e closed h = picks_follow rules w c (next_ready w c.reached) c.steps refl refl closed h

@@ -101,7 +101,7 @@ feeds_goes_on rules w c [] free = end_if (c.ends && not w.ended)
 picks_goes_on : (rules : Rules) (w : World) (c : Cursor) (o : Option ℕ) (steps : ℕ) → NoneLent None w.threads → GoesOn rules w c (picks w c o steps)
 picks_goes_on rules w c None steps free = feeds_goes_on rules w c c.messages free
 picks_goes_on rules w c (Some t) zero free = tt
-picks_goes_on rules w c (Some t) (suc steps) free = (record { steps = same_steps c.steps; ends = refl }, lends_free w 0 t (thread_at w t) free)
+picks_goes_on rules w c (Some t) (suc steps) free = (record { steps = same_steps c.steps; ends = refl }, lends_free rules.built.levels w 0 t (thread_at w t) free)
 
 runs_goes_on : (rules : Rules) (w : World) (c : Cursor) (o : Option ℕ) → NoneLent o w.threads → GoesOn rules w c (runs rules w c o)
 runs_goes_on rules w c None free = picks_goes_on rules w c (next_ready w c.reached) c.steps free

@@ -20,7 +20,7 @@ drains w = record w { drained = w.drained ++ w.undrained; undrained = [] }
 abbrev pub happens : Rules → World → ℕ → Event → Happened
 happens rules w seat (Arrive m) = arrives w m
 happens rules w seat End = silent (record w { ended = true })
-happens rules w seat (Lend t) = lends w seat t
+happens rules w seat (Lend t) = lends rules.built.levels w seat t
 happens rules w seat (Burst t n) = bursts rules w t n
 happens rules w seat (Drain k) = silent (drains w)
 

@@ -3,19 +3,19 @@ use Rattle.std.specs.Prelude.{ℕ, zero, suc, ◌==◌, Bool, true, false, ◌&&
 use Rattle.rpc_messages.specs.declared.from_emacs.FromEmacs.TheVariants as mail
 use Rattle.rpc_messages.specs.declared.to_emacs.Returned.TheVariants as returned
 use Rattle.rpc_messages.specs.declared.to_emacs.ToEmacs.TheVariants as message
-use Rattle.term_model.specs.Breaks.{broken, may_open}
+use Rattle.term_model.specs.Breaks.{broken, max_levels, may_open}
 use Rattle.term_model.specs.Label.{Label, Swept, Out, Broke}
 use Rattle.term_model.specs.Term.{At, plug, split}
 use Rattle.step_model.specs.Now.{Mailbox, Now}
 use Rattle.step_model.specs.Rules.{Rules}
-use Rattle.step_model.specs.Step.{step}
+use Rattle.step_model.specs.AsBuilt.{step_as_built}
 use Rattle.session_model.specs.Arriving.{workers_without}
 use Rattle.session_model.specs.World.{Thread, World, Happened, repl, thread_at, with_thread, live, tells, silent, then}
 
--- the thread once a loan took one of so many interrupts
-abbrev pub interrupted : ℕ → Thread → Thread
-interrupted zero thread = thread
-interrupted (suc n) thread = record thread { term = broken thread.term; interrupts = n }
+-- the thread once a loan took one of so many interrupts, where so many levels are opened
+abbrev pub interrupted : (most : ℕ) → ℕ → Thread → Thread
+interrupted most zero thread = thread
+interrupted most (suc n) thread = record thread { term = broken most thread.term; interrupts = n }
 
 -- the interrupt is taken by a break, unless as many levels are open as there may be
 abbrev pub broke_if : ℕ → ℕ → Bool → List Label
@@ -23,15 +23,15 @@ broke_if t (suc n) true = Broke t ∷ []
 broke_if t (suc n) false = []
 broke_if t zero _ = []
 
-abbrev pub lends_thread : World → ℕ → ℕ → Option Thread → Happened
-lends_thread w seat t (Some thread) =
-    tells (with_thread w t (Some (record (interrupted thread.interrupts thread) { lent = Some seat })))
-    (broke_if t thread.interrupts (may_open (split thread.term).0))
-lends_thread w seat t None = silent w
+abbrev pub lends_thread : (most : ℕ) → World → ℕ → ℕ → Option Thread → Happened
+lends_thread most w seat t (Some thread) =
+    tells (with_thread w t (Some (record (interrupted most thread.interrupts thread) { lent = Some seat })))
+    (broke_if t thread.interrupts (may_open most (split thread.term).0))
+lends_thread most w seat t None = silent w
 
 -- a thread is lent to a seat
-abbrev pub lends : World → ℕ → ℕ → Happened
-lends w seat t = lends_thread w seat t (thread_at w t)
+abbrev pub lends : (most : ℕ) → World → ℕ → ℕ → Happened
+lends most w seat t = lends_thread most w seat t (thread_at w t)
 
 -- what the next step of a thread reads
 abbrev pub now_of : World → ℕ → Thread → Now
@@ -47,6 +47,7 @@ now_of w t thread =
       tag = w.tag;
       inspected = w.inspected;
       threads = live w;
+      most = max_levels;
       labels = [];
       over = false;
       closed = w.closed;
@@ -75,7 +76,7 @@ abbrev pub is_over : ℕ → Now → Bool
 is_over t n = n.over && not (t == repl)
 
 abbrev pub step_of : Rules → World → ℕ → Option Thread → Happened
-step_of rules w t (Some thread) = let n = step rules (now_of w t thread) in settles w t thread n (is_over t n)
+step_of rules w t (Some thread) = let n = step_as_built rules.built rules (now_of w t thread) in settles w t thread n (is_over t n)
 step_of rules w t None = silent w
 
 -- one step of a thread

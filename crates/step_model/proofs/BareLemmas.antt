@@ -1,5 +1,5 @@
 -- What assigning and announcing leave as it was.
-use Rattle.std.proofs.Common.{◌≡◌, suc, ◌+◌, Bool, true, false, [], ◌∷◌, length, Option, Some, None, refl, ap}
+use Rattle.std.proofs.Common.{◌≡◌, suc, ◌+◌, ℕ, Bool, true, false, ◌&&◌, [], ◌∷◌, length, Option, Some, None, refl, ap}
 use Rattle.std.specs.Prelude.{if◌then◌else◌, nat_lt}
 use Rattle.lisp_data.specs.declared.symbol.Symbol.{Symbol}
 use Rattle.lisp_data.specs.declared.value.Value.{Value}
@@ -43,8 +43,8 @@ levels-bares (frame.Cleanup k kept ∷ c) = levels-bares c
 levels-bares (frame.Rex i id form ∷ c) = levels-bares c
 levels-bares (frame.Ask kind tag ∷ c) = levels-bares c
 
-pub may_open-bares : (c : Context) → may_open (bares c) ≡ may_open c
-may_open-bares c = ap (λ k. nat_lt k max_levels) (levels-bares c)
+pub may_open-bares : (most : ℕ) (c : Context) → may_open most (bares c) ≡ may_open most c
+may_open-bares most c = ap (λ k. nat_lt k most && nat_lt k max_levels) (levels-bares c)
 
 -- a changed layer that is bare the same
 abbrev pub Barely : Frame → Sight Frame → Type 0

@@ -24,13 +24,18 @@ use Rattle.term_model.specs.GoingIn.{advanced, body, cond, continued, first_part
 use Rattle.term_model.specs.Progress.{Progress, progress}
 use Rattle.term_model.specs.Room.{enter, is_within, room, wrap}
 use Rattle.term_model.specs.Term.{Context}
-use Rattle.step_model.specs.Facts.{FocusFits, IsSound, LayerFits, LayersFit, bare_plain, bares, waits}
+use Rattle.step_model.specs.Facts.{FocusFits, IsSound, RedexStands, LayerFits, LayersFit, bare_plain, bares, waits}
 use Rattle.step_model.proofs.BareLemmas.{may_open-bares}
 use Rattle.step_model.specs.Now.{Now, around}
 use Rattle.step_model.specs.Perform.{cut_off, exhausted_if, given, gives, gives_in, goes, laid, lays, lays_if, opens}
 
-abbrev pub Sound : Now → Type 0
-Sound n = IsSound n.context n.redex
+abbrev pub Sound : Now → Now → Type 0
+Sound n m = IsSound n.most m.context m.redex
+
+-- what may stand there but leaving may be a thread's redex
+pub redex_stands : (most : ℕ) (f : Focus) (d : Context) → FocusFits f d → RedexStands most f d
+redex_stands most focus.Abort d h = absurd h
+redex_stands most f d h = h
 
 -- a place inside a request, in a context without what assigning and announcing change
 pub record Place (d : Context) : Type 0 where
@@ -152,18 +157,18 @@ wrap_redex zero c (p ∷ []) (Already v) place g h = refl
 wrap_redex zero c (p ∷ ps) found place g h = tt
 wrap_redex (suc space) c (p ∷ ps) found place g h = wrap_redex space (frame.On p ∷ c) ps found (marked p (bares c) g.0 place) g.1 h
 
-pub opens_fits : (n : Now) (condition : Condition) → Place (bares n.context) → Sound (opens n condition)
+pub opens_fits : (n : Now) (condition : Condition) → Place (bares n.context) → Sound n (opens n condition)
 opens_fits n condition place = record { layers = (place.busy, place.layers); redex = refl }
 
-exhausted_fits : (n : Now) (b : Bool) → may_open n.context ≡ b → Place (bares n.context) → Sound (exhausted_if b n)
+exhausted_fits : (n : Now) (b : Bool) → may_open n.most n.context ≡ b → Place (bares n.context) → Sound n (exhausted_if b n)
 exhausted_fits n true e place = opens_fits n stack_exhausted place
-exhausted_fits n false e place = record { layers = place.layers; redex = may_open-bares n.context ∙ e }
+exhausted_fits n false e place = record { layers = place.layers; redex = may_open-bares n.most n.context ∙ e }
 
-pub exhausted_place : (n : Now) → Place (bares n.context) → Sound (exhausted_if (may_open n.context) n)
-exhausted_place n place = exhausted_fits n (may_open n.context) refl place
+pub exhausted_place : (n : Now) → Place (bares n.context) → Sound n (exhausted_if (may_open n.most n.context) n)
+exhausted_place n place = exhausted_fits n (may_open n.most n.context) refl place
 
-laid_fits : (n : Now) (o : Option Focus) → Place (bares n.context) → RedexFits o (bares n.context) → Sound (laid n o)
-laid_fits n (Some f) place h = record { layers = place.layers; redex = h }
+laid_fits : (n : Now) (o : Option Focus) → Place (bares n.context) → RedexFits o (bares n.context) → Sound n (laid n o)
+laid_fits n (Some f) place h = record { layers = place.layers; redex = redex_stands n.most f (bares n.context) h }
 laid_fits n None place h = exhausted_place n place
 
 -- what a cleanup that is past the limit stands in is busy
@@ -177,13 +182,13 @@ cut_place (frame.Rex i id form ∷ c) place = place
 cut_place (frame.Sldb n condition again ∷ c) place = place
 cut_place (frame.Ask kind tag ∷ c) place = place
 
-lays_if_fits : (n : Now) (b : Bool) (ps : List Plain) (found : Found) → Place (bares n.context) → PlainsFit ps (bares n.context) → FoundFits found → Sound (lays_if b n ps found)
+lays_if_fits : (n : Now) (b : Bool) (ps : List Plain) (found : Found) → Place (bares n.context) → PlainsFit ps (bares n.context) → FoundFits found → Sound n (lays_if b n ps found)
 lays_if_fits n true ps found place g h =
     let e = wrap (room n.context) n.context ps found in
     laid_fits (around n e.around) e.redex (wrap_place (room n.context) n.context ps found place g h) (wrap_redex (room n.context) n.context ps found place g h)
 lays_if_fits n false ps found place g h = exhausted_place (around n (cut_off n.context)) (cut_place n.context place)
 
-pub lays_fits : (n : Now) (ps : List Plain) (found : Found) → Place (bares n.context) → PlainsFit ps (bares n.context) → FoundFits found → Sound (lays n ps found)
+pub lays_fits : (n : Now) (ps : List Plain) (found : Found) → Place (bares n.context) → PlainsFit ps (bares n.context) → FoundFits found → Sound n (lays n ps found)
 lays_fits n ps found place g h = lays_if_fits n (is_within n.context) ps found place g h
 
 -- ---- giving
@@ -203,11 +208,11 @@ resumed_fits (plain.Form p) v = (continued_fits p v, λ d h. h)
 resumed_fits (plain.Map g list next collected) v = (refl, λ d h. h)
 resumed_fits p v = tt
 
-given_fits : (n : Now) (p : Plain) (c : Context) (v : Value) (o : Option Found) → OptionFits p o → LayersFit (bares (frame.On p ∷ c)) → Sound (given n p c v o)
+given_fits : (n : Now) (p : Plain) (c : Context) (v : Value) (o : Option Found) → OptionFits p o → LayersFit (bares (frame.On p ∷ c)) → Sound n (given n p c v o)
 given_fits n p c v None o h = record { layers = h; redex = refl }
 given_fits n p c v (Some found) o h = lays_fits (around n c) [] found (record { layers = h.1; busy = o.1 (bares c) h.0 }) tt o.0
 
-gives_in_fits : (n : Now) (c : Context) (o : Outcome) → Place (bares c) → Sound (gives_in n c o)
+gives_in_fits : (n : Now) (c : Context) (o : Outcome) → Place (bares c) → Sound n (gives_in n c o)
 gives_in_fits n [] o place = absurd (false≢true (sym place.busy))
 gives_in_fits n (frame.On p ∷ c) (outcome.Value v) place = given_fits n p c v (resumed p v) (resumed_fits p v) place.layers
 gives_in_fits n (frame.On p ∷ c) (outcome.Reply r) place = record { layers = place.layers; redex = refl }
@@ -217,10 +222,10 @@ gives_in_fits n (frame.Rex i id form ∷ c) o place = record { layers = place.la
 gives_in_fits n (frame.Sldb m condition again ∷ c) o place = absurd (false≢true (sym place.busy))
 gives_in_fits n (frame.Ask kind tag ∷ c) o place = record { layers = place.layers; redex = refl }
 
-pub gives_fits : (n : Now) (o : Outcome) → Place (bares n.context) → Sound (gives n o)
+pub gives_fits : (n : Now) (o : Outcome) → Place (bares n.context) → Sound n (gives n o)
 gives_fits n o place = gives_in_fits n n.context o place
 
-pub goes_fits : (n : Now) (ps : List Plain) (found : Found) → Place (bares n.context) → PlainsFit ps (bares n.context) → FoundFits found → Sound (goes n ps found)
+pub goes_fits : (n : Now) (ps : List Plain) (found : Found) → Place (bares n.context) → PlainsFit ps (bares n.context) → FoundFits found → Sound n (goes n ps found)
 goes_fits n [] (Already v) place g h = gives_fits n (outcome.Value v) place
 goes_fits n [] (Here f) place g h = lays_fits n [] (Here f) place g h
 goes_fits n [] (Inside p e) place g h = lays_fits n [] (Inside p e) place g h

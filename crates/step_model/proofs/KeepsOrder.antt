@@ -3,6 +3,8 @@ use Rattle.std.proofs.Common.{◌≡◌, ℕ, ◌+◌, ◌<◌, ◌≤◌, List,
 use Rattle.std.proofs.lemmas.Bool.{ltb-true}
 use Rattle.term_model.specs.Breaks.{max_levels}
 use Rattle.term_model.specs.Label.{Label}
+use Rattle.step_model.specs.AsBuilt.{step_as_built}
+use Rattle.step_model.specs.Built.{Built}
 use Rattle.step_model.specs.Marks.{Mark, Protected, Cleaning, Serving, Level, Asking, State, depth, state_of}
 use Rattle.step_model.specs.Moves as move
 use Rattle.step_model.specs.Moves.{Fits, Move, Path, Phase, after, before, go, stay}
@@ -10,7 +12,7 @@ use Rattle.step_model.specs.Now.{Mailbox, Now}
 use Rattle.step_model.specs.Order.{AreSerials, IsNew, IsOrdered}
 use Rattle.step_model.specs.Rules.{Rules}
 use Rattle.step_model.specs.Step.{step}
-use Rattle.step_model.proofs.Paths.{step_path}
+use Rattle.step_model.proofs.Paths.{as_built_path, step_path}
 
 -- a serial that is not below another is new among those that are
 new_above : (k s : ℕ) (ms : List Mark) → s ≤ k → AreSerials s ms → IsNew k ms
@@ -53,3 +55,6 @@ path_keeps {t = t} (go m ms s mb p e g) h = move_keeps t m ms s mb e (path_keeps
 
 pub step_orders : (rules : Rules) (n : Now) → IsOrdered (state_of n) → IsOrdered (state_of (step rules n))
 step_orders rules n h = path_keeps (step_path rules n).1 h
+
+pub as_built_orders : (built : Built) (rules : Rules) (n : Now) → IsOrdered (state_of n) → IsOrdered (state_of (step_as_built built rules n))
+as_built_orders built rules n h = path_keeps (as_built_path built rules n).1 h

@@ -32,6 +32,8 @@ use Rattle.term_model.specs.Term.{Context}
 use Rattle.term_model.specs.Variables.{with_dynamic, with_lexical}
 use Rattle.step_model.specs.Act as act
 use Rattle.step_model.specs.Act.{Act}
+use Rattle.step_model.specs.AsBuilt.{leaving, limited, step_as_built}
+use Rattle.step_model.specs.Built.{Built}
 use Rattle.step_model.specs.CurrentPackage.{binds_package, bound_package}
 use Rattle.step_model.specs.Decision.{decided}
 use Rattle.step_model.specs.Facts.{FocusFits, IsSound, bares, waits}
@@ -41,9 +43,9 @@ use Rattle.step_model.specs.Rooms.{BrokenRoom, HasRoom, HasRoomBroken, LayersRoo
 use Rattle.step_model.specs.Kinds.{gives_made}
 use Rattle.step_model.specs.Requests.{asked, finished}
 use Rattle.step_model.specs.Rules.{Rules}
-use Rattle.step_model.specs.Step as the_step
-use Rattle.step_model.specs.Step.{act_if, announced_at, begun}
+use Rattle.step_model.specs.Step.{announced_at, begun, carried_out, step}
 use Rattle.step_model.specs.Table.{answered, given_row, row}
+use Rattle.step_model.proofs.AsBuiltLemmas.{either_way}
 use Rattle.step_model.proofs.BareLemmas.{bares-with_dynamic, bares-with_lexical, length-bares, levels-bares}
 use Rattle.step_model.proofs.ExitRooms.{Bounded, exits_room, redex_bounded}
 use Rattle.step_model.proofs.FitLemmas.{Place}
@@ -84,7 +86,7 @@ passes_room n (frame.Ask kind tag ∷ c) o p h g = record { layers = h; redex = 
 
 protects_value_room : (n : Now) (o : Option Value) (cleanup : List Ast) → LayersRoom (bares n.context) → layers (bares n.context) ≤ limit (levels (bares n.context)) → Roomy (protects_value n o cleanup)
 protects_value_room n (Some v) cleanup h g = record { layers = (tt, h); redex = omega arith }
-protects_value_room n None cleanup h g = exhausted_room n (may_open n.context) (record { rooms = h; within = g })
+protects_value_room n None cleanup h g = exhausted_room n (may_open n.most n.context) (record { rooms = h; within = g })
 
 -- where there is room for one layer more
 one_more : (c : Context) (space : ℕ) → room c ≡ suc space → layers (bares c) + 1 ≤ limit (levels (bares c))
@@ -100,7 +102,7 @@ awaited_room : (kind : Ask) (tag : ℕ) (d : Context) → layers d ≤ limit (le
 awaited_room kind tag d h = any_redex (focus.Wait (awaited kind tag)) d h
 
 asks_room : (n : Now) (space : ℕ) (kind : Ask) (text : List ℕ) → room n.context ≡ space → LayersRoom (bares n.context) → layers (bares n.context) ≤ limit (levels (bares n.context)) → Roomy (asks n space kind text)
-asks_room n zero kind text is h g = exhausted_room n (may_open n.context) (record { rooms = h; within = g })
+asks_room n zero kind text is h g = exhausted_room n (may_open n.most n.context) (record { rooms = h; within = g })
 asks_room n (suc space) kind text is h g =
     let more = one_more n.context space is in record { layers = (more, h); redex = awaited_room kind n.tag (frame.Ask kind n.tag ∷ bares n.context) (omega arith) }
 
@@ -168,8 +170,8 @@ perform_room n (act.Resumes g) f i = record { layers = i.rooms; redex = any_rede
 perform_room n act.Passes f i = passes_room n n.context (outcome_of n.redex) f i.rooms (omega (arith, i.within))
 perform_room n (act.Protects e cleanup) f i = protects_room n (room n.context) e cleanup refl i.rooms i.within
 perform_room n (act.Asks kind text) f i = asks_room n (room n.context) kind text refl i.rooms i.within
-perform_room n (act.Opens condition) f i = enters_room n (may_open n.context) condition i.rooms i.within
-perform_room n (act.Breaks o) f i = breaks_room n (may_open n.context) o i.rooms (omega (arith, i.within))
+perform_room n (act.Opens condition) f i = enters_room n (may_open n.most n.context) condition i.rooms i.within
+perform_room n (act.Breaks o) f i = breaks_room n (may_open n.most n.context) o i.rooms (omega (arith, i.within))
 perform_room n (act.Exits x) f i = exits_room n x.target x.bring i.rooms (within_bounded (bares n.context) i.within) f.1
 perform_room n (act.Takes p) f i = takes_room n p (first_accepted p n.mailbox) refl f.1 i.rooms i.within
 perform_room n act.Closes f i = record { layers = i.rooms; redex = i.within }
@@ -223,13 +225,9 @@ given_room rules n m (frame.Sldb level condition again ∷ c) o f h g = passes_r
 -- the row of a redex
 row_room : (rules : Rules) (n : Now) (f : Focus) → ActFits (row rules n f) (bares n.context) → LayersRoom (bares n.context) → BrokenRoom f (bares n.context) → Roomy (perform (begun n) (row rules n f))
 row_room rules n (focus.Given o) a h g = given_room rules n (begun n) n.context o a h g
-row_room rules n (focus.Break o) a h g = breaks_room (begun n) (may_open n.context) _ h g
+row_room rules n (focus.Break o) a h g = breaks_room (begun n) (may_open n.most n.context) _ h g
 row_room rules n focus.Abort a h g = abort_room (begun n) h (redex_bounded focus.Abort (bares n.context) g)
 row_room rules n f a h g = perform_room (begun n) (row rules n f) a (record { rooms = h; within = g })
-
-act_room : (n : Now) (b : Bool) (a : Act) → LayersRoom (bares n.context) → Bounded (bares n.context) → Roomy (perform (begun n) a) → Roomy (perform (begun n) (act_if b n a))
-act_room n true a h g r = r
-act_room n false a h g r = abort_room (begun n) h g
 
 announced_room : (n : Now) (c : Context) (f : Focus) → n.context ≡ c → n.redex ≡ f → Roomy n → Roomy (announced_at n c f)
 announced_room n (frame.Sldb m condition true ∷ c) (focus.Wait pattern.Rex) e g r =
@@ -239,13 +237,18 @@ announced_room n (frame.Sldb m condition true ∷ c) (focus.Wait pattern.Rex) e 
     }
 announced_room n c f e g r = r
 
+carried_room : (n : Now) (a : Act) → Roomy (perform (begun n) a) → Roomy (carried_out n a)
+carried_room n a r = let d = perform (begun n) a in announced_room d d.context d.redex refl refl r
+
 -- a step keeps the layers within their limit
-pub step_rooms : (rules : Rules) (n : Now) → IsSound n.context n.redex → HasRoomBroken n.context n.redex → HasRoom (the_step.step rules n).context (the_step.step rules n).redex
-step_rooms rules n s h =
-    let d = perform (begun n) (the_step.act rules n) in
-    let r : Roomy (perform (begun n) (row rules n n.redex)) = row_room rules n n.redex (row_fits rules n n.redex s.layers s.redex) h.layers h.redex in
-    announced_room d d.context d.redex refl refl
-    (act_room n (the_step.is_built rules n) (row rules n n.redex) h.layers (redex_bounded n.redex (bares n.context) h.redex) r)
+pub step_rooms : (rules : Rules) (n : Now) → IsSound n.most n.context n.redex → HasRoomBroken n.context n.redex → Roomy (step rules n)
+step_rooms rules n s h = carried_room n (row rules n n.redex) (row_room rules n n.redex (row_fits rules n n.redex s.layers s.redex) h.layers h.redex)
+
+pub as_built_rooms : (built : Built) (rules : Rules) (n : Now) → IsSound built.levels n.context n.redex → HasRoomBroken n.context n.redex → Roomy (step_as_built built rules n)
+as_built_rooms built rules n s h =
+    let m = limited built n in
+    either_way Roomy built rules n (step_rooms rules m s h)
+    (carried_room m (leaving n) (abort_room (begun m) h.layers (redex_bounded n.redex (bares n.context) h.redex)))
 
 -- what has room has it between an interrupt and the next step
 pub weaker : (f : Focus) (d : Context) → RedexRoom f d → BrokenRoom f d
@@ -263,9 +266,9 @@ broken_room false c f h = record { layers = h.layers; redex = leaving_room f (ba
 broken_room true c f h = let g : layers (bares c) ≤ limit (levels (bares c)) = h.redex in record { layers = (tt, h.layers); redex = omega arith }
 
 -- a break adds one layer at most
-pub break_rooms : (c : Context) (f : Focus) → HasRoom c f → HasRoomBroken (broken_at (may_open c) c f).0 (broken_at (may_open c) c f).1
-break_rooms c f h = broken_room (may_open c) c f h
+pub break_rooms : (most : ℕ) (c : Context) (f : Focus) → HasRoom c f → HasRoomBroken (broken_at (may_open most c) c f).0 (broken_at (may_open most c) c f).1
+break_rooms most c f h = broken_room (may_open most c) c f h
 
 -- a thread that waits for a request has room for one
-pub waiting_room : (c : Context) → IsSound c (focus.Wait pattern.Rex) → HasRoom c (focus.Wait pattern.Rex) → layers (bares c) + 2 ≤ limit (levels (bares c))
-waiting_room c s h = waits_room (bares c) s.redex h.layers
+pub waiting_room : (most : ℕ) (c : Context) → IsSound most c (focus.Wait pattern.Rex) → HasRoom c (focus.Wait pattern.Rex) → layers (bares c) + 2 ≤ limit (levels (bares c))
+waiting_room most c s h = waits_room (bares c) s.redex h.layers

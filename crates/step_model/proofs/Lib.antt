@@ -1,4 +1,5 @@
 pub mod MarkLemmas
+pub mod AsBuiltLemmas
 pub mod Paths
 pub mod BareLemmas
 pub mod FitLemmas

@@ -23,9 +23,8 @@ use Rattle.step_model.specs.Act.{Act}
 use Rattle.step_model.specs.Local.{Spot, found_has_room, has_room, have_room, is_announced, is_inside, is_local, is_local_act, is_of_term, is_quiet, of_term, outcome_has_room, resumed_has_room, spot_if, spot_of, step_alone}
 use Rattle.step_model.specs.Now.{Now, around, puts}
 use Rattle.step_model.specs.Perform.{assigns_or, given, gives_in, goes, laid, lays, lays_if, outward, perform}
-use Rattle.step_model.specs.Requests.{asked}
-use Rattle.step_model.specs.Rules.{Asked, Rules}
-use Rattle.step_model.specs.Step.{act_if, announced_at, begun, is_form_built, is_row_built, raises, step}
+use Rattle.step_model.specs.Rules.{Rules}
+use Rattle.step_model.specs.Step.{announced_at, begun, step}
 use Rattle.step_model.specs.Decision.{Decision, Alone, Beyond, decided, decided_alone}
 use Rattle.step_model.specs.Table.{alone, decide}
 use Rattle.step_model.specs.Table as table
@@ -117,32 +116,9 @@ performed_is n a = tt
 pub act_spot : (n : Now) (a : Act) (s : Spot) → performed_alone n.context a ≡ Some s → perform n a ≡ puts n s.0 s.1
 act_spot n a s e = subst (λ o. Gets o n (perform n a)) e (performed_is n a)
 
--- such an act is no raise
-raises_not_assigned : (a : Act) (s : Spot) (o : Option Context) → ((d : Context) → performed_alone d a ≡ Some s → raises a ≡ false) → option_and_then (λ d. performed_alone d a) o ≡ Some s → raises a ≡ false
-raises_not_assigned a s None go e = absurd (cc)
-raises_not_assigned a s (Some d) go e = go d e
-
-raises_not : (c : Context) (a : Act) (s : Spot) → performed_alone c a ≡ Some s → raises a ≡ false
-raises_not c (act.Raises condition) s e = absurd (cc)
-raises_not c (act.Outward a) s e = raises_not (outward c) a s e
-raises_not c (act.Assigns x v a) s e = raises_not_assigned a s (with_lexical x v c) (λ d h. raises_not d a s h) e
-raises_not c (act.Writes ws a) s e = absurd (cc)
-raises_not c (act.Changes image a) s e = absurd (cc)
-raises_not c (act.Inspects vs a) s e = absurd (cc)
-raises_not c (act.Sets x v a) s e = absurd (cc)
-raises_not c a s e = refl
-
--- a built redex that isn't a request's function
-row_built : (rules : Rules) (x : Asked) (c : Context) (f : Focus) → is_form_built c f ≡ true → is_row_built rules x c f ≡ true
-row_built rules x c focus.Rpc e = absurd (false≢true e)
-row_built rules x c f e = e
-
 and_first : (a b : Bool) → (a && b) ≡ true → a ≡ true
 and_first true b e = refl
 and_first false b e = absurd (false≢true e)
-
-both_true : (a b : Bool) → a ≡ true → b ≡ false → (a && not b) ≡ true
-both_true a b e g = ap (λ x. x && not b) e ∙ ap not g
 
 announced_not : (n : Now) (c : Context) (f : Focus) → is_announced c f ≡ false → announced_at n c f ≡ n
 announced_not n (frame.Sldb k condition true ∷ c) (focus.Wait pattern.Rex) e = absurd (false≢true (sym e))
@@ -154,15 +130,11 @@ decided_is n (Alone b) a e = cc
 decided_is n (Beyond g) a e = absurd (cc)
 
 -- the step of an act that the term alone decides
-acted : (rules : Rules) (n : Now) (a : Act) (s : Spot) → is_form_built n.context n.redex ≡ true → alone rules n.context n.redex ≡ Some a → performed_alone n.context a ≡ Some s → is_announced s.0 s.1 ≡ false → step rules n ≡ puts (begun n) s.0 s.1
-acted rules n a s built is e quiet =
+acted : (rules : Rules) (n : Now) (a : Act) (s : Spot) → alone rules n.context n.redex ≡ Some a → performed_alone n.context a ≡ Some s → is_announced s.0 s.1 ≡ false → step rules n ≡ puts (begun n) s.0 s.1
+acted rules n a s is e quiet =
     let row_is : table.row rules n n.redex ≡ a = decided_is n (decide rules n.context n.redex) a is in
-    let no_raise : raises (table.row rules n n.redex) ≡ false = ap raises row_is ∙ raises_not n.context a s e in
-    let is_built : (is_row_built rules (asked n) n.context n.redex && not (raises (table.row rules n n.redex))) ≡ true =
-    both_true (is_row_built rules (asked n) n.context n.redex) (raises (table.row rules n n.redex)) (row_built rules (asked n) n.context n.redex built) no_raise in
-    let act_is : act_if (is_row_built rules (asked n) n.context n.redex && not (raises (table.row rules n n.redex))) n (table.row rules n n.redex) ≡ a = ap (λ b. act_if b n (table.row rules n n.redex)) is_built ∙ row_is in
     let done : perform (begun n) a ≡ puts (begun n) s.0 s.1 = act_spot (begun n) a s e in
-    ap (λ x. announced_at x x.context x.redex) (ap (λ x. perform (begun n) x) act_is ∙ done)
+    ap (λ x. announced_at x x.context x.redex) (ap (λ x. perform (begun n) x) row_is ∙ done)
     ∙ announced_not (puts (begun n) s.0 s.1) s.0 s.1 quiet
 
 -- ---- what has room is made
@@ -248,10 +220,8 @@ pub local_step : (rules : Rules) (n : Now) (s : Spot) → step_alone rules n.con
 local_step rules n s h =
     let c = n.context in
     let f = n.redex in
-    let is = spot_if_is (is_form_built c f && is_local rules c f) (spot_of (step rules (of_term c f))) s h in
-    let built = and_first (is_form_built c f) (is_local rules c f) is.0 in
-    let inside = and_second (is_form_built c f) (is_local rules c f) is.0 in
-    let x = decided_local (is_local_act c f) (alone rules c f) (and_second (is_inside c f) (option_map_or (is_local_act c f) (alone rules c f) false) inside) in
+    let is = spot_if_is (is_local rules c f) (spot_of (step rules (of_term c f))) s h in
+    let x = decided_local (is_local_act c f) (alone rules c f) (and_second (is_inside c f) (option_map_or (is_local_act c f) (alone rules c f) false) is.0) in
     let m = made_of c f x.0 x.2 in
-    let here : step rules (of_term c f) ≡ puts (of_term c f) m.spot.0 m.spot.1 = acted rules (of_term c f) x.0 m.spot built x.1 m.made m.quiet in
-    acted rules n x.0 m.spot built x.1 m.made m.quiet ∙ ap (λ t. puts (begun n) t.0 t.1) (sym (ap spot_of here) ∙ is.1)
+    let here : step rules (of_term c f) ≡ puts (of_term c f) m.spot.0 m.spot.1 = acted rules (of_term c f) x.0 m.spot x.1 m.made m.quiet in
+    acted rules n x.0 m.spot x.1 m.made m.quiet ∙ ap (λ t. puts (begun n) t.0 t.1) (sym (ap spot_of here) ∙ is.1)

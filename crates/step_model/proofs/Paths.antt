@@ -1,6 +1,7 @@
 -- Each step is a list of moves.
 use Rattle.std.proofs.Common.{◌≡◌, ℕ, ℤ, zero, suc, ◌+◌, Bool, true, false, List, [], ◌∷◌, ◌++◌, map, Option, Some, None, refl, sym, ap, ◌∙◌, subst, append_assoc, append-nil}
 use Rattle.std.specs.Prelude.{nat_lt, slice_get}
+use Rattle.std.proofs.lemmas.Bool.{and_parts}
 use Rattle.lisp_data.specs.declared.sexp.Sexp.{Sexp}
 use Rattle.lisp_data.specs.declared.symbol.Symbol.{Symbol}
 use Rattle.lisp_data.specs.declared.sexp.Sexp.TheViews.{out-Sexp}
@@ -56,6 +57,10 @@ use Rattle.step_model.specs.Perform.{outcome_of, after_leaving, answer_in, asks,
 use Rattle.step_model.specs.Rules.{Rules, Writing}
 use Rattle.step_model.specs.Step as the_step
 use Rattle.step_model.specs.Step.{announced_at}
+use Rattle.step_model.specs.AsBuilt.{leaving, limited, step_as_built}
+use Rattle.step_model.specs.Built.{Built}
+use Rattle.step_model.specs.Table.{row}
+use Rattle.step_model.proofs.AsBuiltLemmas.{either_way}
 use Rattle.step_model.proofs.MarkLemmas.{SameMarks, levels-depth, marks-stir, marks-with_dynamic, marks-with_lexical, marks-wrap}
 
 -- a context with the same marks
@@ -66,18 +71,18 @@ announces : (image : ImageState) (t n : ℕ) (condition : Condition) (c : Contex
 unfolding debug_message
 announces image t n condition c = refl
 
-opens_path : {ph : Phase} (s : State) (n : Now) (condition : Condition) → may_open n.context ≡ true → At s n ph → At s (opens n condition) ph
+opens_path : {ph : Phase} (s : State) (n : Now) (condition : Condition) → may_open n.most n.context ≡ true → At s n ph → At s (opens n condition) ph
 opens_path s n condition e p =
     go (move.Opens (levels n.context + 1) (debug_message n.image n.thread (levels n.context + 1) condition n.context)) (marks n.context) n.serial n.mailbox p
-    (ap (λ k. k + 1) (levels-depth n.context), sym (ap (λ k. nat_lt k max_levels) (levels-depth n.context)) ∙ e, announces n.image n.thread (levels n.context + 1) condition n.context) tt
+    (ap (λ k. k + 1) (levels-depth n.context), sym (ap (λ k. nat_lt k max_levels) (levels-depth n.context)) ∙ (and_parts (nat_lt (levels n.context) n.most) (nat_lt (levels n.context) max_levels) e).1, announces n.image n.thread (levels n.context + 1) condition n.context) tt
 
-exhausted_path : {ph : Phase} (s : State) (n : Now) (b : Bool) → may_open n.context ≡ b → At s n ph → At s (exhausted_if b n) ph
+exhausted_path : {ph : Phase} (s : State) (n : Now) (b : Bool) → may_open n.most n.context ≡ b → At s n ph → At s (exhausted_if b n) ph
 exhausted_path s n true e p = opens_path s n stack_exhausted e p
 exhausted_path s n false e p = p
 
 laid_path : {ph : Phase} (s : State) (n : Now) (o : Option Focus) → At s n ph → At s (laid n o) ph
 laid_path s n (Some f) p = p
-laid_path s n None p = exhausted_path s n (may_open n.context) refl p
+laid_path s n None p = exhausted_path s n (may_open n.most n.context) refl p
 
 -- what tells nothing
 quietly : {ph : Phase} (s : State) (n : Now) (x : State) → Path n.thread s (n.labels ++ []) x ph → Path n.thread s n.labels x ph
@@ -96,7 +101,7 @@ lays_if_path : {ph : Phase} (s : State) (n : Now) (b : Bool) (ps : List Plain) (
 lays_if_path s n true ps found p =
     let e = wrap (room n.context) n.context ps found in
     laid_path s (around n e.around) e.redex (same s n e.around (marks-wrap (room n.context) n.context ps found) p)
-lays_if_path s n false ps found p = exhausted_path s (around n (cut_off n.context)) (may_open (cut_off n.context)) refl (cut_off_path s n n.context p)
+lays_if_path s n false ps found p = exhausted_path s (around n (cut_off n.context)) (may_open n.most (cut_off n.context)) refl (cut_off_path s n n.context p)
 
 lays_path : {ph : Phase} (s : State) (n : Now) (ps : List Plain) (found : Found) → At s n ph → At s (lays n ps found) ph
 lays_path s n ps found p = lays_if_path s n (is_within n.context) ps found p
@@ -189,11 +194,11 @@ exits_path s n target b h =
 
 -- ---- acts
 
-enters_path : (s : State) (n : Now) (b : Bool) (condition : Condition) → may_open n.context ≡ b → At s n Calm → Comes s (enters_if b n condition)
+enters_path : (s : State) (n : Now) (b : Bool) (condition : Condition) → may_open n.most n.context ≡ b → At s n Calm → Comes s (enters_if b n condition)
 enters_path s n true condition e h = (Calm, opens_path s n condition e h)
 enters_path s n false condition e h = let x = abort_exit n.context in exits_path s n x.target x.bring h
 
-breaks_path : (s : State) (n : Now) (b : Bool) (o : Outcome) → may_open n.context ≡ b → At s n Calm → Comes s (breaks_if b n o)
+breaks_path : (s : State) (n : Now) (b : Bool) (o : Outcome) → may_open n.most n.context ≡ b → At s n Calm → Comes s (breaks_if b n o)
 breaks_path s n true o e h = (Calm, opens_path s (offering n o) interrupted e h)
 breaks_path s n false o e h = let x = abort_exit n.context in exits_path s n x.target x.bring h
 
@@ -217,7 +222,7 @@ passes_path s n (frame.Ask kind tag ∷ c) o h = (Calm, h)
 
 protects_value_path : (s : State) (n : Now) (o : Option Value) (cleanup : List Ast) → At s n Calm → Comes s (protects_value n o cleanup)
 protects_value_path s n (Some v) cleanup h = (Made, quietly s n _ (go (move.Protects n.serial) (marks n.context) n.serial n.mailbox h refl refl))
-protects_value_path s n None cleanup h = (Calm, exhausted_path s n (may_open n.context) refl h)
+protects_value_path s n None cleanup h = (Calm, exhausted_path s n (may_open n.most n.context) refl h)
 
 protects_path : (s : State) (n : Now) (space : ℕ) (e : Ast) (cleanup : List Ast) → At s n Calm → Comes s (protects n space e cleanup)
 protects_path s n zero e cleanup h = protects_value_path s n (value_in e) cleanup h
@@ -225,7 +230,7 @@ protects_path s n (suc space) e cleanup h =
     (Made, goes_path s (around (record n { serial = n.serial + 1 }) (frame.Protect n.serial cleanup ∷ n.context)) [] (look e) (quietly s n _ (go (move.Protects n.serial) (marks n.context) n.serial n.mailbox h refl refl)))
 
 asks_path : (s : State) (n : Now) (space : ℕ) (kind : Ask) (text : List ℕ) → At s n Calm → Comes s (asks n space kind text)
-asks_path s n zero kind text h = (Calm, exhausted_path s n (may_open n.context) refl h)
+asks_path s n zero kind text h = (Calm, exhausted_path s n (may_open n.most n.context) refl h)
 asks_path s n (suc space) kind text h = (Calm, go (move.Asks kind n.tag text) (marks n.context) n.serial n.mailbox h tt tt)
 
 takes_path : (s : State) (n : Now) (p : Pattern) (o : Option (ℕ × FromEmacs)) → first_accepted p n.mailbox ≡ o → At s n Calm → Comes s (takes n p o)
@@ -273,8 +278,8 @@ perform_path s n (act.Resumes f) h = (Calm, h)
 perform_path s n act.Passes h = passes_path s n n.context (outcome_of n.redex) h
 perform_path s n (act.Protects e cleanup) h = protects_path s n (room n.context) e cleanup h
 perform_path s n (act.Asks kind text) h = asks_path s n (room n.context) kind text h
-perform_path s n (act.Opens condition) h = enters_path s n (may_open n.context) condition refl h
-perform_path s n (act.Breaks o) h = breaks_path s n (may_open n.context) o refl h
+perform_path s n (act.Opens condition) h = enters_path s n (may_open n.most n.context) condition refl h
+perform_path s n (act.Breaks o) h = breaks_path s n (may_open n.most n.context) o refl h
 perform_path s n (act.Exits x) h = exits_path s n x.target x.bring h
 perform_path s n (act.Takes p) h = takes_path s n p (first_accepted p n.mailbox) refl h
 perform_path s n act.Closes h = (Calm, h)
@@ -291,9 +296,16 @@ announced_path {ph = ph} s n (frame.Sldb m condition true ∷ c) (focus.Wait pat
     (subst (λ x. Path n.thread s n.labels (record { marks = marks x; serial = n.serial; mailbox = n.mailbox }) ph) e h) (announces n.image n.thread m condition c) tt
 announced_path s n c f e h = h
 
--- one step is a list of moves
-pub step_path : (rules : Rules) (n : Now) → Comes (state_of n) (the_step.step rules n)
-step_path rules n =
-    let d = perform (the_step.begun n) (the_step.act rules n) in
-    let p : Comes (state_of n) d = perform_path (state_of n) (the_step.begun n) (the_step.act rules n) stay in
+-- what is carried out is a list of moves
+carried_path : (n : Now) (a : Act) → Comes (state_of n) (the_step.carried_out n a)
+carried_path n a =
+    let d = perform (the_step.begun n) a in
+    let p : Comes (state_of n) d = perform_path (state_of n) (the_step.begun n) a stay in
     (p.0, announced_path (state_of n) d d.context d.redex refl p.1)
+
+-- one step is
+pub step_path : (rules : Rules) (n : Now) → Comes (state_of n) (the_step.step rules n)
+step_path rules n = carried_path n (row rules n n.redex)
+
+pub as_built_path : (built : Built) (rules : Rules) (n : Now) → Comes (state_of n) (step_as_built built rules n)
+as_built_path built rules n = either_way (Comes (state_of n)) built rules n (step_path rules (limited built n)) (carried_path (limited built n) (leaving n))

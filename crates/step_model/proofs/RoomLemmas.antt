@@ -81,7 +81,7 @@ exhausted_room n false i = record { layers = i.rooms; redex = omega (arith, i.wi
 
 laid_room : (n : Now) (c : Context) (o : Option Focus) → Spotted c o → Roomy (laid (around n c) o)
 laid_room n c (Some f) s = record { layers = s.rooms; redex = s.redex }
-laid_room n c None s = exhausted_room (around n c) (may_open c) (record { rooms = s.rooms; within = s.redex })
+laid_room n c None s = exhausted_room (around n c) (may_open n.most c) (record { rooms = s.rooms; within = s.redex })
 
 -- how far past the limit a place may be where something is laid: a cleanup's
 abbrev pub cushion : Context → ℕ
@@ -118,7 +118,7 @@ lays_if_room n true ps found e h g =
     let w = wrap (room n.context) n.context ps found in
     laid_room n w.around w.redex (wrap_spot (room n.context) n.context ps found h (space_is n.context (is_within-true n.context e)))
 lays_if_room n false ps found e h g =
-    exhausted_room (around n (cut_off n.context)) (may_open (cut_off n.context)) (cut_inner n.context h (is_within-false n.context e) g)
+    exhausted_room (around n (cut_off n.context)) (may_open n.most (cut_off n.context)) (cut_inner n.context h (is_within-false n.context e) g)
 
 pub lays_room : (n : Now) (ps : List Plain) (found : Found) → LayersRoom (bares n.context) → layers (bares n.context) ≤ limit (levels (bares n.context)) + cushion (bares n.context) → Roomy (lays n ps found)
 lays_room n ps found h g = lays_if_room n (is_within n.context) ps found refl h g

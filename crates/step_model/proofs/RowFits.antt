@@ -32,7 +32,7 @@ use Rattle.term_model.specs.Search.{layer_at}
 use Rattle.term_model.specs.Term.{Context}
 use Rattle.step_model.specs.Act.{Act}
 use Rattle.step_model.specs.Decision.{decided}
-use Rattle.step_model.specs.Facts.{FocusFits, HasHandlers, IsCall, LayerFits, LayersFit, bare_plain, bares, names_handlers, waits}
+use Rattle.step_model.specs.Facts.{FocusFits, HasHandlers, IsCall, LayerFits, LayersFit, RedexStands, bare_plain, bares, names_handlers, waits}
 use Rattle.step_model.specs.Now.{Now, around}
 use Rattle.step_model.specs.Requests as requests
 use Rattle.step_model.specs.Rules as rules_of
@@ -182,11 +182,11 @@ is_waiting (focus.Wait p) = true
 is_waiting focus.Abort = true
 is_waiting _ = false
 
-busy_redex : (g : Focus) (d : Context) → is_waiting g ≡ false → FocusFits g d → waits d ≡ false
-busy_redex (focus.Wait p) d e h = absurd (false≢true (sym e))
-busy_redex focus.Abort d e h = absurd (false≢true (sym e))
-busy_redex (focus.SignalPast condition p j) d e h = h.0
-busy_redex g d e h = h
+busy_redex : (most : ℕ) (g : Focus) (d : Context) → is_waiting g ≡ false → RedexStands most g d → waits d ≡ false
+busy_redex most (focus.Wait p) d e h = absurd (false≢true (sym e))
+busy_redex most focus.Abort d e h = absurd (false≢true (sym e))
+busy_redex most (focus.SignalPast condition p j) d e h = h.0
+busy_redex most g d e h = h
 
 busy_row : (rules : Rules) (n : Now) → Busy n → (g : Focus) → is_waiting g ≡ false → ActFits (table.row rules n g) (There n)
 busy_row rules n place (focus.Given o) e = given_row_fits rules n n.context o place
@@ -208,7 +208,7 @@ busy_row rules n place focus.Rpc e = commanded_row n place (rules.command (reque
 busy_row rules n place (focus.Forms fs origin) e = forms_row rules n place fs origin
 
 -- the row of a redex fits where the redex does
-pub row_fits : (rules : Rules) (n : Now) (g : Focus) → LayersFit (There n) → FocusFits g (There n) → ActFits (table.row rules n g) (There n)
+pub row_fits : (rules : Rules) (n : Now) (g : Focus) → LayersFit (There n) → RedexStands n.most g (There n) → ActFits (table.row rules n g) (There n)
 row_fits rules n (focus.Wait p) h e = (h, e)
 row_fits rules n focus.Abort h e = (h, abort_fits n.context)
-row_fits rules n g h e = busy_row rules n (record { layers = h; busy = busy_redex g (There n) refl e }) g refl
+row_fits rules n g h e = busy_row rules n (record { layers = h; busy = busy_redex n.most g (There n) refl e }) g refl

@@ -1,8 +1,7 @@
 -- Invoking a restart that isn't there any more answers NIL and does nothing else.
 use Rattle.std.proofs.Common.{◌≡◌, ℤ, ◌⊎◌, ⊎_elim, Bool, true, false, ◌&&◌, [], ◌∷◌, Option, Some, None, refl, ap, ◌∙◌}
-use Rattle.std.specs.Prelude.{not}
+use Rattle.std.specs.Prelude.{◌||◌}
 use Rattle.lisp_data.specs.declared.sexp.Sexp.TheVariants as form
-use Rattle.term_model.specs.declared.focus.Focus.{Focus}
 use Rattle.term_model.specs.declared.focus.Focus.TheVariants as focus
 use Rattle.term_model.specs.declared.frame.Frame.TheVariants as frame
 use Rattle.term_model.specs.declared.kept.Outcome.{Outcome}
@@ -10,14 +9,15 @@ use Rattle.term_model.specs.declared.kept.Outcome.TheVariants as outcome
 use Rattle.term_model.specs.Levels.{Level, current_level}
 use Rattle.term_model.specs.Restarts.{restarts_of_level}
 use Rattle.term_model.specs.Term.{Context}
-use Rattle.step_model.specs.Act.{Act}
 use Rattle.step_model.specs.Now.{Now, puts}
-use Rattle.step_model.specs.Perform.{gives_in, perform}
+use Rattle.step_model.specs.Perform.{gives_in}
 use Rattle.step_model.specs.Requests.{asked, commanded, in_level, invokes_place, invokes_restart, is_number, item_at, nil_reply}
 use Rattle.step_model.specs.Rules as rules_of
 use Rattle.step_model.specs.Rules.{Rules}
 use Rattle.step_model.specs.Stale.{IsStale}
-use Rattle.step_model.specs.Step.{act_if, announced_at, begun, is_row_built, raises, step}
+use Rattle.step_model.specs.AsBuilt.{is_act_built, is_built, is_row_built}
+use Rattle.step_model.specs.Built.{Built}
+use Rattle.step_model.specs.Step.{announced_at, begun, carried_out, step}
 use Rattle.step_model.specs.Table.{row}
 
 stale_place : (n : Now) (level : Level) (i : ℤ) (b : Bool) → (b ≡ false) ⊎ (item_at (restarts_of_level level.around) i ≡ None) → invokes_place n level i b ≡ nil_reply
@@ -44,9 +44,6 @@ replies n (frame.Rex i id request ∷ c) = refl
 replies n (frame.Sldb m condition again ∷ c) = refl
 replies n (frame.Ask kind tag ∷ c) = refl
 
-acts : (n : Now) (b : Bool) (a : Act) → b ≡ true → a ≡ nil_reply → perform (begun n) (act_if b n a) ≡ after_reply n
-acts n b a e g = ap (λ x. perform (begun n) (act_if x n a)) e ∙ ap (λ x. perform (begun n) x) g ∙ replies (begun n) n.context
-
 not_announced : (n : Now) (c : Context) (r : Outcome) → announced_at n c (focus.Given r) ≡ n
 not_announced n [] r = refl
 not_announced n (frame.On p ∷ c) r = refl
@@ -57,13 +54,24 @@ not_announced n (frame.Sldb m condition true ∷ c) r = refl
 not_announced n (frame.Sldb m condition false ∷ c) r = refl
 not_announced n (frame.Ask kind tag ∷ c) r = refl
 
-stale_at : (rules : Rules) (n : Now) (f : Focus) (k i : ℤ) → f ≡ focus.Rpc → rules.is_served (asked n).form ≡ true → rules.command (asked n) ≡ rules_of.InvokesNth k i → IsStale (current_level n.context) k i → perform (begun n) (act_if (is_row_built rules (asked n) n.context f && not (raises (row rules n f))) n (row rules n f)) ≡ after_reply n
-stale_at rules n f k i e served c h =
-    let is : row rules n f ≡ nil_reply = ap (λ x. row rules n x) e ∙ row_is rules n k i c h in
-    let built : is_row_built rules (asked n) n.context f ≡ true = ap (λ x. is_row_built rules (asked n) n.context x) e ∙ served in
-    acts n _ (row rules n f) (ap (λ x. x && not (raises (row rules n f))) built ∙ ap (λ a. not (raises a)) is) is
+or_true : (b : Bool) → (b || true) ≡ true
+or_true true = refl
+or_true false = refl
+
+stale_row : (rules : Rules) (n : Now) (k i : ℤ) → n.redex ≡ focus.Rpc → rules.command (asked n) ≡ rules_of.InvokesNth k i → IsStale (current_level n.context) k i → row rules n n.redex ≡ nil_reply
+stale_row rules n k i e c h = ap (λ f. row rules n f) e ∙ row_is rules n k i c h
 
 -- the step of a stale restart
-pub stale_step : (rules : Rules) (n : Now) (k i : ℤ) → n.redex ≡ focus.Rpc → rules.is_served (asked n).form ≡ true → rules.command (asked n) ≡ rules_of.InvokesNth k i → IsStale (current_level n.context) k i → step rules n ≡ after_reply n
-stale_step rules n k i e served c h =
-    ap (λ x. announced_at x x.context x.redex) (stale_at rules n n.redex k i e served c h) ∙ not_announced (after_reply n) n.context (outcome.Reply (form.List []))
+pub stale_step : (rules : Rules) (n : Now) (k i : ℤ) → n.redex ≡ focus.Rpc → rules.command (asked n) ≡ rules_of.InvokesNth k i → IsStale (current_level n.context) k i → step rules n ≡ after_reply n
+stale_step rules n k i e c h =
+    ap (λ a. carried_out n a) (stale_row rules n k i e c h)
+    ∙ ap (λ m. announced_at m m.context m.redex) (replies (begun n) n.context)
+    ∙ not_announced (after_reply n) n.context (outcome.Reply (form.List []))
+
+-- it is built where its request's function is
+pub stale_is_built : (built : Built) (rules : Rules) (n : Now) (k i : ℤ) → n.redex ≡ focus.Rpc → built.serves (asked n).form ≡ true → rules.command (asked n) ≡ rules_of.InvokesNth k i → IsStale (current_level n.context) k i → is_built built rules n ≡ true
+stale_is_built built rules n k i e served c h =
+    ap (λ f. is_row_built built n f && is_act_built built (row rules n n.redex)) e
+    ∙ ap (λ b. b && is_act_built built (row rules n n.redex)) served
+    ∙ ap (is_act_built built) (stale_row rules n k i e c h)
+    ∙ or_true built.raises

@@ -103,11 +103,11 @@ TargetFits target bring.Nothing c = (target ≡ 0) ⊎ ((1 ≤ target) × IsRequ
 
 -- ---- layers and redexes
 
--- a redex may stand in this context: a wait for a request directly in the top or in a level; leaving where no further level may be
--- opened; and everything else inside a request
+-- a redex but leaving may stand in this context: a wait for a request directly in the top or in a level, and everything else inside a
+-- request
 abbrev pub FocusFits : Focus → Context → Type 0
 FocusFits (focus.Wait pattern.Rex) c = waits c ≡ true
-FocusFits focus.Abort c = may_open c ≡ false
+FocusFits focus.Abort c = ⊥
 FocusFits (focus.SignalPast condition p j) c = (waits c ≡ false) × (names_handlers p c ≡ true)
 FocusFits _ c = waits c ≡ false
 
@@ -125,7 +125,12 @@ abbrev pub LayersFit : Context → Type 0
 LayersFit [] = Unit {0}
 LayersFit (l ∷ c) = LayerFits l c × LayersFit c
 
--- the facts of a term, by its redex and what is around it
-pub record IsSound (c : Context) (f : Focus) : Type 0 where
+-- a thread's redex may stand there: leaving only where no further level may be opened
+abbrev pub RedexStands : ℕ → Focus → Context → Type 0
+RedexStands most focus.Abort c = may_open most c ≡ false
+RedexStands most f c = FocusFits f c
+
+-- the facts of a term, by its redex and what is around it, where so many levels are opened
+pub record IsSound (most : ℕ) (c : Context) (f : Focus) : Type 0 where
   pub layers : LayersFit (bares c)
-  pub redex : FocusFits f (bares c)
+  pub redex : RedexStands most f (bares c)

@@ -1,4 +1,5 @@
 pub mod Image
+pub mod Built
 pub mod Rules
 pub mod Now
 pub mod CurrentPackage
@@ -13,6 +14,7 @@ pub mod Forms
 pub mod Requests
 pub mod Table
 pub mod Step
+pub mod AsBuilt
 pub mod Marks
 pub mod Moves
 pub mod Facts

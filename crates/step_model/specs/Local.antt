@@ -11,6 +11,7 @@ use Rattle.term_model.specs.declared.frame.Frame.TheVariants as frame
 use Rattle.term_model.specs.declared.kept.Outcome.{Outcome}
 use Rattle.term_model.specs.declared.kept.Outcome.TheVariants as outcome
 use Rattle.term_model.specs.declared.plain.Plain.{Plain}
+use Rattle.term_model.specs.Breaks.{max_levels}
 use Rattle.term_model.specs.GoingIn.{resumed}
 use Rattle.term_model.specs.Room.{Entered, is_within, room, wrap}
 use Rattle.term_model.specs.Term.{Context}
@@ -22,7 +23,7 @@ use Rattle.step_model.specs.Image.{ImageState}
 use Rattle.step_model.specs.Now.{Now}
 use Rattle.step_model.specs.Perform.{outward, perform}
 use Rattle.step_model.specs.Rules.{Rules}
-use Rattle.step_model.specs.Step.{is_form_built, step}
+use Rattle.step_model.specs.Step.{step}
 use Rattle.step_model.specs.Table.{alone}
 
 -- ---- a term alone
@@ -52,6 +53,7 @@ of_term c f = record {
   labels = [];
   over = false;
   closed = false;
+  most = max_levels;
 }
 
 -- ---- what an act needs
@@ -138,6 +140,6 @@ abbrev pub spot_if : Bool → Spot → Option Spot
 spot_if true s = Some s
 spot_if false s = None
 
--- what the step of a built redex makes of the term where it needs nothing else, and None where it does
+-- what a step makes of the term where it needs nothing else, and None where it does
 abbrev pub step_alone : Rules → Context → Focus → Option Spot
-step_alone rules c f = spot_if (is_form_built c f && is_local rules c f) (spot_of (step rules (of_term c f)))
+step_alone rules c f = spot_if (is_local rules c f) (spot_of (step rules (of_term c f)))

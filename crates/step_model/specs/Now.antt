@@ -25,6 +25,8 @@ pub record Now : Type 0 where
   pub inspected : List Value
   -- the numbers of the live threads
   pub threads : List ℕ
+  -- how many levels of the debugger the program opens
+  pub most : ℕ
   -- what the step has told
   pub labels : List Label
   -- whether a request at the top ended, or an exit came to the top

@@ -74,7 +74,7 @@ exhausted_if true n = opens n stack_exhausted
 exhausted_if false n = puts n n.context focus.Abort
 
 abbrev pub exhausted : Now → Now
-exhausted n = exhausted_if (may_open n.context) n
+exhausted n = exhausted_if (may_open n.most n.context) n
 
 abbrev pub laid : Now → Option Focus → Now
 laid n (Some f) = puts n n.context f
@@ -198,7 +198,7 @@ enters_if true n condition = opens n condition
 enters_if false n condition = let x = abort_exit n.context in exits n x.target x.bring
 
 abbrev pub enters : Now → Condition → Now
-enters n condition = enters_if (may_open n.context) n condition
+enters n condition = enters_if (may_open n.most n.context) n condition
 
 abbrev pub interrupted : Condition
 interrupted = without_datum type.SimpleCondition (codes "Interrupt from Emacs")
@@ -338,7 +338,7 @@ perform n Passes = passes n n.context (outcome_of n.redex)
 perform n (Protects e cleanup) = protects n (room n.context) e cleanup
 perform n (Asks kind text) = asks n (room n.context) kind text
 perform n (Opens condition) = enters n condition
-perform n (Breaks o) = breaks_if (may_open n.context) n o
+perform n (Breaks o) = breaks_if (may_open n.most n.context) n o
 perform n (Exits x) = exits n x.target x.bring
 perform n (Takes p) = takes n p (first_accepted p n.mailbox)
 perform n Closes = record (puts n n.context focus.Rpc) { closed = true }

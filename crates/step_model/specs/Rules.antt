@@ -12,6 +12,7 @@ use Rattle.syntax_trees.specs.declared.ast.Ast.{Ast}
 use Rattle.syntax_trees.specs.declared.row.Designator.{Designator}
 use Rattle.term_model.specs.declared.focus.Origin.{Origin}
 use Rattle.term_model.specs.Term.{Context}
+use Rattle.step_model.specs.Built.{Built}
 use Rattle.step_model.specs.Image.{ImageState}
 
 -- what a request's function sees. `form` is the request's form, `current` the full name of the current package, `inspected` what is
@@ -78,5 +79,5 @@ pub record Rules : Type 0 where
   pub command : Asked → Command
   -- what it says of the value of its forms, with what was kept
   pub finish : Asked → (kept : Sexp) → Value → Finish
-  -- whether the function of a request is built
-  pub is_served : Sexp → Bool
+  -- what of the table the program can do yet. No row reads it
+  pub built : Built

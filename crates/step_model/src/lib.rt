@@ -13,7 +13,8 @@ mod machine_function;
 
 pub use laws::{
     a_break_keeps_the_facts, a_local_step_needs_the_term_alone, a_stale_restart_does_nothing,
-    a_waiting_thread_has_room_for_a_request, each_machine_function_is_found,
-    each_step_is_a_list_of_moves, each_step_keeps_the_facts, the_handlers_in_force,
+    a_step_is_whole_or_leaves, a_waiting_thread_has_room_for_a_request,
+    each_machine_function_is_found, each_step_is_a_list_of_moves, each_step_keeps_the_facts,
+    the_handlers_in_force,
 };
 pub use machine_function::{MACHINE_FUNCTIONS, MachineFunction};

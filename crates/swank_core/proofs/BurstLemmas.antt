@@ -6,6 +6,7 @@ use Rattle.rpc_messages.specs.declared.from_emacs.FromEmacs.TheVariants as mail
 use Rattle.rpc_messages.specs.declared.to_emacs.Returned.TheVariants as returned
 use Rattle.rpc_messages.specs.declared.to_emacs.ToEmacs.{ToEmacs}
 use Rattle.rpc_messages.specs.declared.to_emacs.ToEmacs.TheVariants as message
+use Rattle.term_model.specs.Breaks.{max_levels}
 use Rattle.term_model.specs.declared.focus.Focus.{Focus}
 use Rattle.term_model.specs.Label.{Label, messages_in}
 use Rattle.term_model.specs.Term.{Context, At, plug, split-plug}
@@ -17,7 +18,7 @@ use Rattle.server_rules.specs.Rules.{rules}
 use Rattle.server_rules.specs.Simple.{are_simple}
 use Rattle.step_model.specs.Image.{ImageState}
 use Rattle.step_model.specs.Now.{Mailbox, Now}
-use Rattle.step_model.specs.Step.{step}
+use Rattle.step_model.specs.AsBuilt.{step_as_built}
 use Rattle.session_model.specs.Arriving.{workers_without}
 use Rattle.session_model.specs.Legal.{can_step, goes_on, may_step}
 use Rattle.session_model.specs.Pipe.{burst_length}
@@ -47,6 +48,7 @@ now_at w t s serial mailbox image = record {
   tag = w.tag;
   inspected = w.inspected;
   threads = live w;
+  most = max_levels;
   labels = [];
   over = false;
   closed = w.closed;
@@ -117,18 +119,18 @@ settled w n old new image before after true e l is =
     }
 
 -- a step of the machine is a step of the world that shows its thread
-pub one_step : ((n : Now) → are_simple n.context ≡ true → beside (step rules n) ≡ beside n) → (w : World) (old new : Record) (image later : ImageState) (before after : List ToEmacs) (over : Bool)
+pub one_step : ((n : Now) → are_simple n.context ≡ true → beside (step_as_built rules.built rules n) ≡ beside n) → (w : World) (old new : Record) (image later : ImageState) (before after : List ToEmacs) (over : Bool)
     → are_simple old.machine.stack.context ≡ true → Shows w old image
-    → ((b : Beside) → Left (step rules (machine.now_of (number_of old) old.machine.stack old.mailbox image b)) old new later before after)
-    → ((b : Beside) → over ≡ is_over (number_of old) (step rules (machine.now_of (number_of old) old.machine.stack old.mailbox image b)))
+    → ((b : Beside) → Left (step_as_built rules.built rules (machine.now_of (number_of old) old.machine.stack old.mailbox image b)) old new later before after)
+    → ((b : Beside) → over ≡ is_over (number_of old) (step_as_built rules.built rules (machine.now_of (number_of old) old.machine.stack old.mailbox image b)))
     → Steps w old before new later after over
 one_step leaves w old new image later before after over simple s left is =
     let t = number_of old in
     let now : Now = machine.now_of t old.machine.stack old.mailbox image (beside_of w) in
-    let n : Now = step rules now in
+    let n : Now = step_as_built rules.built rules now in
     settled w n old new later before after over (leaves now simple) (left (beside_of w))
     (ap (step_of rules w t) s.at
-    ∙ ap (λ (x : Now). settles w t (thread_of old) (step rules x) (is_over t (step rules x))) (same_now w old image s.image_is)
+    ∙ ap (λ (x : Now). settles w t (thread_of old) (step_as_built rules.built rules x) (is_over t (step_as_built rules.built rules x))) (same_now w old image s.image_is)
     ∙ ap (settles w t (thread_of old) n) (sym (is (beside_of w))))
 
 -- ---- one step after another

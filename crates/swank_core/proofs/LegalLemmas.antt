@@ -1,4 +1,5 @@
 -- The journal of a core is legal, since each thread that is lent can make a step.
+use Rattle.server_rules.specs.Built.{built}
 use Rattle.std.proofs.Common.{◌≡◌, ℕ, ℤ, zero, suc, ◌+◌, ◌<◌, ◌≤◌, Bool, true, false, List, [], ◌∷◌, ◌++◌, length, Option, Some, None, ⊎_elim, refl, sym, ap, ◌∙◌, subst, arith}
 use Rattle.std.specs.Prelude.{◌&&◌, ◌||◌, not, nat_lt, if◌then◌else◌, slice_set}
 use Rattle.std.specs.Option.{option_map_or}
@@ -15,7 +16,7 @@ use Rattle.term_model.specs.Term.{Context, Term, split, split-plug}
 use Rattle.server_rules.specs.Rules.{rules}
 use Rattle.step_model.specs.Image.{ImageState}
 use Rattle.step_model.specs.Now.{Mailbox, Now}
-use Rattle.step_model.specs.Step.{step}
+use Rattle.step_model.specs.AsBuilt.{step_as_built}
 use Rattle.session_model.specs.declared.event.Entry.{Entry}
 use Rattle.session_model.specs.declared.event.Event.TheVariants.{Arrive, End, Lend, Burst, Drain}
 use Rattle.session_model.specs.Arriving.{answers, arrives, interrupts, named, posted, requests, requests_by}
@@ -88,13 +89,13 @@ break_goes_on true c (focus.Given o) mailbox = refl
 break_goes_on true c f mailbox = refl
 break_goes_on false c f mailbox = refl
 
-broken_goes_on : (t : Term) (mailbox : Mailbox) → waits_in_vain (split (broken t)).1 mailbox ≡ false
+broken_goes_on : (t : Term) (mailbox : Mailbox) → waits_in_vain (split (broken built.levels t)).1 mailbox ≡ false
 broken_goes_on t mailbox =
     let s : Context × Focus = split t in
-    let b : Context × Focus = broken_at (may_open s.0) s.0 s.1 in
-    ap (λ (r : Context × Focus). waits_in_vain r.1 mailbox) (split-plug b.0 b.1) ∙ break_goes_on (may_open s.0) s.0 s.1 mailbox
+    let b : Context × Focus = broken_at (may_open built.levels s.0) s.0 s.1 in
+    ap (λ (r : Context × Focus). waits_in_vain r.1 mailbox) (split-plug b.0 b.1) ∙ break_goes_on (may_open built.levels s.0) s.0 s.1 mailbox
 
-lent_goes : (thread : Thread) (n seat : ℕ) → (nat_lt 0 n || can_step thread) ≡ true → can_step (record (interrupted n thread) { lent = Some seat }) ≡ true
+lent_goes : (thread : Thread) (n seat : ℕ) → (nat_lt 0 n || can_step thread) ≡ true → can_step (record (interrupted built.levels n thread) { lent = Some seat }) ≡ true
 lent_goes thread zero seat h = h
 lent_goes thread (suc n) seat h = ap not (broken_goes_on thread.term thread.mailbox)
 
@@ -106,10 +107,10 @@ and_right : (a b : Bool) → (a && b) ≡ true → b ≡ true
 and_right true b h = h
 and_right false b h = absurd (cc)
 
-lends_lent : (w : World) (seat t : ℕ) (o : Option Thread) → thread_at w t ≡ o → option_map_or is_lendable o false ≡ true → LentGoOn w.threads → LentGoOn (lends_thread w seat t o).after.threads
+lends_lent : (w : World) (seat t : ℕ) (o : Option Thread) → thread_at w t ≡ o → option_map_or is_lendable o false ≡ true → LentGoOn w.threads → LentGoOn (lends_thread built.levels w seat t o).after.threads
 lends_lent w seat t None e ready h = h
 lends_lent w seat t (Some thread) e ready h =
-    each_set GoesOn w.threads t (record (interrupted thread.interrupts thread) { lent = Some seat }) h
+    each_set GoesOn w.threads t (record (interrupted built.levels thread.interrupts thread) { lent = Some seat }) h
     (λ lent. lent_goes thread thread.interrupts seat (and_left (is_active thread) (not (is_lent thread)) ready))
 
 -- ---- a burst changes no other thread
@@ -119,7 +120,7 @@ settles_other w t u thread n true ne = thread_set_other w.threads t u None ne
 settles_other w t u thread n false ne = thread_set_other w.threads t u _ ne
 
 step_other : (w : World) (t u : ℕ) (o : Option Thread) → (u ≡ t → ⊥) → thread_in (step_of rules w t o).after.threads u ≡ thread_in w.threads u
-step_other w t u (Some thread) ne = let n : Now = step rules (now_of w t thread) in settles_other w t u thread n (is_over t n) ne
+step_other w t u (Some thread) ne = let n : Now = step_as_built rules.built rules (now_of w t thread) in settles_other w t u thread n (is_over t n) ne
 step_other w t u None ne = refl
 
 steps_other : (n t u : ℕ) (w : World) → (u ≡ t → ⊥) → thread_in (steps rules n t w).after.threads u ≡ thread_in w.threads u

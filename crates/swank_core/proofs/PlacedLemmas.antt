@@ -1,4 +1,5 @@
 -- What holds of each thread before a place of the journal: its messages came before, and each of its interrupts had a place.
+use Rattle.server_rules.specs.Built.{built}
 use Rattle.std.proofs.Common.{◌≡◌, ℕ, ℤ, zero, suc, ◌+◌, ◌<◌, ◌≤◌, Bool, true, false, cond, List, [], ◌∷◌, ◌++◌, length, Option, Some, None, ⊎_elim, refl, sym, ap, ◌∙◌, subst, arith, length-append}
 use Rattle.std.specs.Prelude.{slice_get, slice_set}
 use Rattle.std.specs.Option.{option_map_or}
@@ -19,8 +20,8 @@ use Rattle.step_model.specs.Moves as move
 use Rattle.step_model.specs.Moves.{Move, Path, Phase, go, stay, mail_after}
 use Rattle.step_model.specs.Now.{Mailbox, Now}
 use Rattle.step_model.specs.Rules.{Rules}
-use Rattle.step_model.specs.Step.{step}
-use Rattle.step_model.proofs.Paths.{step_path}
+use Rattle.step_model.specs.AsBuilt.{step_as_built}
+use Rattle.step_model.proofs.Paths.{as_built_path}
 use Rattle.session_model.specs.Arriving.{named, posted, requests, requests_by, answers, interrupts, arrives}
 use Rattle.session_model.specs.Running.{after_step, interrupted, is_over, lends_thread, now_of, settles, step_of, steps_once, steps, unlent, bursts}
 use Rattle.session_model.specs.World.{Thread, World, fresh, repl, thread_in, thread_at}
@@ -150,20 +151,20 @@ path_mail at stay h = h
 path_mail at (go m ms s mb p e g) h = move_mail at m mb (path_mail at p h)
 
 -- a step takes messages out and puts none in
-pub step_mail : (rules : Rules) (at : ℕ) (n : Now) → AllBefore at n.mailbox → AllBefore at (step rules n).mailbox
-step_mail rules at n h = path_mail at (step_path rules n).1 h
+pub step_mail : (rules : Rules) (at : ℕ) (n : Now) → AllBefore at n.mailbox → AllBefore at (step_as_built rules.built rules n).mailbox
+step_mail rules at n h = path_mail at (as_built_path rules.built rules n).1 h
 
 -- ---- events
 
-interrupted_placed : (at n : ℕ) (thread : Thread) → thread.interrupts ≡ n → IsPlaced at thread → IsPlaced at (interrupted n thread)
+interrupted_placed : (at n : ℕ) (thread : Thread) → thread.interrupts ≡ n → IsPlaced at thread → IsPlaced at (interrupted built.levels n thread)
 interrupted_placed at zero thread e p = p
 interrupted_placed at (suc n) thread e p = record { mail = p.mail; interrupts = omega (arith, e, p.interrupts) }
 
-pub lends_placed : (at : ℕ) (w : World) (seat t : ℕ) (o : Option Thread) → thread_at w t ≡ o → ArePlaced at w.threads → ArePlaced at (lends_thread w seat t o).after.threads
+pub lends_placed : (at : ℕ) (w : World) (seat t : ℕ) (o : Option Thread) → thread_at w t ≡ o → ArePlaced at w.threads → ArePlaced at (lends_thread built.levels w seat t o).after.threads
 lends_placed at w seat t None e h = h
 lends_placed at w seat t (Some thread) e h =
-    let p : IsPlaced at (interrupted thread.interrupts thread) = interrupted_placed at thread.interrupts thread refl (h t thread e) in
-    each_set (IsPlaced at) w.threads t (record (interrupted thread.interrupts thread) { lent = Some seat }) h (record { mail = p.mail; interrupts = p.interrupts })
+    let p : IsPlaced at (interrupted built.levels thread.interrupts thread) = interrupted_placed at thread.interrupts thread refl (h t thread e) in
+    each_set (IsPlaced at) w.threads t (record (interrupted built.levels thread.interrupts thread) { lent = Some seat }) h (record { mail = p.mail; interrupts = p.interrupts })
 
 settles_placed : (at : ℕ) (w : World) (t : ℕ) (thread : Thread) (n : Now) (over : Bool) → ArePlaced at w.threads → IsPlaced at (after_step thread n) → ArePlaced at (settles w t thread n over).after.threads
 settles_placed at w t thread n false h p = each_set (IsPlaced at) w.threads t (after_step thread n) h p
@@ -172,7 +173,7 @@ settles_placed at w t thread n true h p = each_less (IsPlaced at) w.threads t h
 step_placed : (rules : Rules) (at : ℕ) (w : World) (t : ℕ) (o : Option Thread) → thread_at w t ≡ o → ArePlaced at w.threads → ArePlaced at (step_of rules w t o).after.threads
 step_placed rules at w t None e h = h
 step_placed rules at w t (Some thread) e h =
-    let n : Now = step rules (now_of w t thread) in
+    let n : Now = step_as_built rules.built rules (now_of w t thread) in
     let p : IsPlaced at thread = h t thread e in
     settles_placed at w t thread n (is_over t n) h (record { mail = step_mail rules at (now_of w t thread) p.mail; interrupts = p.interrupts })
 

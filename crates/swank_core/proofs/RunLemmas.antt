@@ -1,4 +1,5 @@
 -- The run of a journal with one entry more, and what an event leaves of the world beside the threads.
+use Rattle.server_rules.specs.Built.{built}
 use Rattle.std.proofs.Common.{◌≡◌, ℕ, ℤ, zero, suc, ◌+◌, Bool, true, false, List, [], ◌∷◌, ◌++◌, Option, Some, None, refl, sym, ap, ◌∙◌, arith, append_assoc, append-nil}
 use Rattle.rpc_messages.specs.declared.from_emacs.FromEmacs.{FromEmacs}
 use Rattle.rpc_messages.specs.declared.from_emacs.FromEmacs.TheVariants as mail
@@ -64,7 +65,7 @@ broke_says_nothing t zero may = refl
 broke_says_nothing t (suc n) true = refl
 broke_says_nothing t (suc n) false = refl
 
-pub lends_aside : (w : World) (seat t : ℕ) (o : Option Thread) → Aside (lends_thread w seat t o) w
+pub lends_aside : (w : World) (seat t : ℕ) (o : Option Thread) → Aside (lends_thread built.levels w seat t o) w
 lends_aside w seat t (Some thread) = record { places = refl; ended = refl; closed = refl; undrained = refl }
 lends_aside w seat t None = record { places = refl; ended = refl; closed = refl; undrained = sym (append-nil w.undrained) }
 

@@ -1,4 +1,5 @@
 -- What a kept thread can do, and what a loan makes of it.
+use Rattle.server_rules.specs.Built.{built}
 use Rattle.std.proofs.Common.{◌≡◌, ◌⊎◌, inl, inr, ⊎_elim, ℕ, zero, suc, ◌+◌, ◌-◌, ◌<◌, Bool, true, false, [], ◌∷◌, ◌++◌, Option, Some, refl, sym, ap, ◌∙◌, arith}
 use Rattle.std.specs.Prelude.{is_some, not, find, if◌then◌else◌}
 use Rattle.rpc_messages.specs.Waiting.{accepted}
@@ -75,11 +76,11 @@ step_waiting r p e = sym (step_by_redex r ∙ ap (λ f. not (waits_in_vain f r.m
 pub step_otherwise : (r : Record) → ((p : Pattern) → r.machine.stack.redex ≡ focus.Wait p → ⊥) → true ≡ can_step (thread_of r)
 step_otherwise r other = sym (step_by_redex r ∙ ap not (not_waiting r.machine.stack.redex r.mailbox other))
 
-interrupted_some : (n : ℕ) (thread : Thread) → 0 < n → interrupted n thread ≡ record thread { term = broken thread.term; interrupts = n - 1 }
+interrupted_some : (n : ℕ) (thread : Thread) → 0 < n → interrupted built.levels n thread ≡ record thread { term = broken built.levels thread.term; interrupts = n - 1 }
 interrupted_some zero thread h = absurd (omega (arith, h))
-interrupted_some (suc n) thread h = let e : n ≡ suc n - 1 = omega arith in ap (λ k. record thread { term = broken thread.term; interrupts = k }) e
+interrupted_some (suc n) thread h = let e : n ≡ suc n - 1 = omega arith in ap (λ k. record thread { term = broken built.levels thread.term; interrupts = k }) e
 
-interrupted_none : (n : ℕ) (thread : Thread) → n ≡ 0 → interrupted n thread ≡ thread
+interrupted_none : (n : ℕ) (thread : Thread) → n ≡ 0 → interrupted built.levels n thread ≡ thread
 interrupted_none zero thread e = refl
 interrupted_none (suc n) thread e = absurd (omega (arith, e))
 
@@ -90,10 +91,10 @@ lends_broken old new seat some stack mailbox interrupts lent =
     let c : Context = old.machine.stack.context in
     let f : Focus = old.machine.stack.redex in
     ap (λ (s : StackState). record { term = plug s.context (At s.redex); serial = s.serial; mailbox = new.mailbox; interrupts = new.interrupts; lent = new.lent }) stack
-    ∙ ap (λ (mb : Mailbox). record { term = broken_in (c, f); serial = old.machine.stack.serial; mailbox = mb; interrupts = new.interrupts; lent = new.lent }) mailbox
-    ∙ ap (λ k. record { term = broken_in (c, f); serial = old.machine.stack.serial; mailbox = old.mailbox; interrupts = k; lent = new.lent }) interrupts
-    ∙ ap (λ (o : Option ℕ). record { term = broken_in (c, f); serial = old.machine.stack.serial; mailbox = old.mailbox; interrupts = old.interrupts - 1; lent = o }) lent
-    ∙ ap (λ (s : Context × Focus). record { term = broken_in s; serial = old.machine.stack.serial; mailbox = old.mailbox; interrupts = old.interrupts - 1; lent = Some seat }) (sym (split-plug c f))
+    ∙ ap (λ (mb : Mailbox). record { term = broken_in built.levels (c, f); serial = old.machine.stack.serial; mailbox = mb; interrupts = new.interrupts; lent = new.lent }) mailbox
+    ∙ ap (λ k. record { term = broken_in built.levels (c, f); serial = old.machine.stack.serial; mailbox = old.mailbox; interrupts = k; lent = new.lent }) interrupts
+    ∙ ap (λ (o : Option ℕ). record { term = broken_in built.levels (c, f); serial = old.machine.stack.serial; mailbox = old.mailbox; interrupts = old.interrupts - 1; lent = o }) lent
+    ∙ ap (λ (s : Context × Focus). record { term = broken_in built.levels s; serial = old.machine.stack.serial; mailbox = old.mailbox; interrupts = old.interrupts - 1; lent = Some seat }) (sym (split-plug c f))
     ∙ ap (λ (th : Thread). record th { lent = Some seat }) (sym (interrupted_some old.interrupts (thread_of old) some))
 
 pub lends_whole : (old : Record) (seat : ℕ) → old.interrupts ≡ 0 → record (thread_of old) { lent = Some seat } ≡ lent_to seat (thread_of old)

@@ -1,4 +1,5 @@
 -- A core that fits its journal fits it after each event.
+use Rattle.server_rules.specs.Built.{built}
 use Rattle.std.proofs.Common.{◌≡◌, ℕ, zero, suc, ◌+◌, ◌<◌, ◌≤◌, Bool, true, false, List, [], ◌∷◌, ◌++◌, length, Option, Some, None, refl, sym, ap, ◌∙◌, subst, arith, length-append, append-nil}
 use Rattle.std.specs.Prelude.{◌||◌, ◌&&◌, not}
 use Rattle.std.specs.Option.{option_map_or}
@@ -9,7 +10,7 @@ use Rattle.rpc_messages.specs.declared.to_emacs.ToEmacs.{ToEmacs}
 use Rattle.server_rules.specs.Rules.{rules}
 use Rattle.step_model.specs.Image.{ImageState}
 use Rattle.step_model.specs.Now.{Now}
-use Rattle.step_model.specs.Step.{step}
+use Rattle.step_model.specs.AsBuilt.{step_as_built}
 use Rattle.term_model.specs.Label.{messages_in}
 use Rattle.term_model.specs.Breaks.{may_open}
 use Rattle.term_model.specs.Term.{split}
@@ -45,7 +46,7 @@ settles_ended w t thread n true = refl
 settles_ended w t thread n false = refl
 
 step_ended : (w : World) (t : ℕ) (o : Option Thread) → (step_of rules w t o).after.ended ≡ w.ended
-step_ended w t (Some thread) = let n : Now = step rules (now_of w t thread) in settles_ended w t thread n (is_over t n)
+step_ended w t (Some thread) = let n : Now = step_as_built rules.built rules (now_of w t thread) in settles_ended w t thread n (is_over t n)
 step_ended w t None = refl
 
 steps_ended : (n t : ℕ) (w : World) → (steps rules n t w).after.ended ≡ w.ended
@@ -74,7 +75,7 @@ behind_first w seat End j =
     let e : steps_behind (w.ended || true) j ≡ steps_behind true j = ap (λ b. steps_behind b j) (or_true w.ended) in
     omega (arith, e)
 behind_first w seat (Lend t) j =
-    let e : steps_behind (w.ended || false) j ≡ steps_behind (lends w seat t).after.ended j = ap (λ b. steps_behind b j) (or_false w.ended ∙ sym (lends_aside w seat t (thread_at w t)).ended) in
+    let e : steps_behind (w.ended || false) j ≡ steps_behind (lends built.levels w seat t).after.ended j = ap (λ b. steps_behind b j) (or_false w.ended ∙ sym (lends_aside w seat t (thread_at w t)).ended) in
     omega (arith, e)
 behind_first w seat (Burst t n) j =
     let e : steps_behind (w.ended || false) j ≡ steps_behind (bursts rules w t n).after.ended j = ap (λ b. steps_behind b j) (or_false w.ended ∙ sym (bursts_ended w t n)) in
@@ -175,13 +176,13 @@ ties_end image j new seat live outs n k ended failed is h =
     })
 
 pub ties_lend : (image : ImageState) (j new : List Entry) (seat t : ℕ) (live later : LiveState) (outs : List ToEmacs) (n k : ℕ) (ended failed : Bool) → new ≡ j ++ entry seat (Lend t) ∷ []
-    → ((w : World) → live ≡ shown w → later ≡ shown (lends w seat t).after) → failed ≡ false
+    → ((w : World) → live ≡ shown w → later ≡ shown (lends built.levels w seat t).after) → failed ≡ false
     → Ties (run rules image j) j live outs n k ended failed → Ties (run rules image new) new later outs n k ended failed
 ties_lend image j new seat t live later outs n k ended failed is does whole h =
     let w : World = run rules image j in
-    let a : Aside (lends w seat t) w = lends_aside w seat t (thread_at w t) in
-    let none : messages_in (lends w seat t).labels ≡ [] = lends_say_nothing w seat t (thread_at w t) in
-    let p : ArePlaced w.places (lends w seat t).after.threads = lends_placed w.places w seat t (thread_at w t) refl h.placed in
+    let a : Aside (lends built.levels w seat t) w = lends_aside w seat t (thread_at w t) in
+    let none : messages_in (lends built.levels w seat t).labels ≡ [] = lends_say_nothing w seat t (thread_at w t) in
+    let p : ArePlaced w.places (lends built.levels w seat t).after.threads = lends_placed w.places w seat t (thread_at w t) refl h.placed in
     ties_more image j new (entry seat (Lend t)) later outs n k ended failed is (record {
       outs_are = h.outs_are ∙ sym (append-nil w.undrained) ∙ ap (λ x. w.undrained ++ x) (sym none) ∙ sym a.undrained;
       places_are = longer j new _ is ∙ ap (λ x. x + 1) (h.places_are ∙ sym a.places);
@@ -189,16 +190,16 @@ ties_lend image j new seat t live later outs n k ended failed is does whole h =
       after_are = omega (arith, h.after_are, behind image j new seat (Lend t) is, none_behind w.ended seat (Lend t) refl);
       ended_is = h.ended_is ∙ sym a.ended;
       still = a.closed ∙ h.still;
-      placed = subst (λ x. ArePlaced (x + 1) (lends w seat t).after.threads) (sym a.places) (placed_later w.places (w.places + 1) (lends w seat t).after.threads (omega arith) p);
+      placed = subst (λ x. ArePlaced (x + 1) (lends built.levels w seat t).after.threads) (sym a.places) (placed_later w.places (w.places + 1) (lends built.levels w seat t).after.threads (omega arith) p);
       few = omega (arith, h.few, a.places, lends_length w seat t (thread_at w t));
       live_is = λ f. does w (h.live_is whole);
     })
   where
-    lends_say_nothing : (w : World) (seat t : ℕ) (o : Option Thread) → messages_in (lends_thread w seat t o).labels ≡ []
+    lends_say_nothing : (w : World) (seat t : ℕ) (o : Option Thread) → messages_in (lends_thread built.levels w seat t o).labels ≡ []
     lends_say_nothing w seat t None = refl
-    lends_say_nothing w seat t (Some thread) = broke_says_nothing t thread.interrupts (may_open (split thread.term).0)
+    lends_say_nothing w seat t (Some thread) = broke_says_nothing t thread.interrupts (may_open built.levels (split thread.term).0)
 
-    lends_length : (w : World) (seat t : ℕ) (o : Option Thread) → length (lends_thread w seat t o).after.threads ≡ length w.threads
+    lends_length : (w : World) (seat t : ℕ) (o : Option Thread) → length (lends_thread built.levels w seat t o).after.threads ≡ length w.threads
     lends_length w seat t None = refl
     lends_length w seat t (Some thread) = length-set w.threads t _
 
@@ -322,14 +323,14 @@ none_drained image j some = by_case (ends_with_drain j) refl
     by_case false e = refl
     by_case true e = let none : length (run rules image j).undrained ≡ 0 = ap length (drained_ends image j e) in absurd (omega (arith, some, none))
 
-lent_if : (w : World) (seat t : ℕ) (o : Option Thread) → thread_at w t ≡ o → (not w.closed && option_map_or is_lendable o false) ≡ true → IsLentTo seat (thread_in (lends_thread w seat t o).after.threads t)
+lent_if : (w : World) (seat t : ℕ) (o : Option Thread) → thread_at w t ≡ o → (not w.closed && option_map_or is_lendable o false) ≡ true → IsLentTo seat (thread_in (lends_thread built.levels w seat t o).after.threads t)
 lent_if w seat t None e ready = absurd (no (not w.closed) ready)
   where
     no : (b : Bool) → (b && false) ≡ true → ⊥
     no true h = absurd (cc)
     no false h = absurd (cc)
 lent_if w seat t (Some thread) e ready =
-    subst (IsLentTo seat) (sym (thread_set_same w.threads t (Some (record (interrupted thread.interrupts thread) { lent = Some seat })) (live_within w.threads t thread e))) refl
+    subst (IsLentTo seat) (sym (thread_set_same w.threads t (Some (record (interrupted built.levels thread.interrupts thread) { lent = Some seat })) (live_within w.threads t thread e))) refl
 
 -- a ready thread is lent after its loan
 pub lent_then : (image : ImageState) (j new : List Entry) (seat t : ℕ) → new ≡ j ++ entry seat (Lend t) ∷ [] → is_ready (run rules image j) t ≡ true → IsLentTo seat (thread_at (run rules image new) t)

@@ -1,4 +1,5 @@
 -- A live thread as it is kept, and the table of them.
+use Rattle.server_rules.specs.Built.{built}
 use Rattle.std.specs.Prelude.{◌≡◌, ℕ, ◌+◌, ◌≤◌, ◌^◌, true, List, [], ◌∷◌, Option, Some, drop, slice_get, slice_set}
 use Rattle.std.specs.Option.{option_map_or}
 use Rattle.server_rules.specs.Simple.{are_simple}
@@ -52,7 +53,7 @@ changed change t threads = option_map_or (λ thread. slice_set threads t (Some (
 
 -- a loan takes a pending interrupt
 abbrev pub lent_to : ℕ → Thread → Thread
-lent_to seat thread = record (interrupted thread.interrupts thread) { lent = Some seat }
+lent_to seat thread = record (interrupted built.levels thread.interrupts thread) { lent = Some seat }
 
 -- one interrupt more is pending
 abbrev pub interrupted_once : Thread → Thread

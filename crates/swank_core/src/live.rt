@@ -1,3 +1,4 @@
+ghost use Rattle.server_rules.specs.Built.{built};
 ghost use Rattle.std.specs.Prelude.{◌≡◌, ◌+◌, ◌<◌, ◌≤◌, ◌^◌, ℕ, Some, length, false, true, is_some, IfOk};
 ghost use Rattle.mailboxes.specs.Mail.{IsMail};
 ghost use Rattle.session_model.specs.Arriving as spec;
@@ -224,7 +225,7 @@ impl Live {
 
     /// Lends a thread to a seat.
     pub fn lend(&mut self, t: u64, seat: u64)
-        ensures { (w : World) → self.old ≡ shown w → self.new ≡ shown (lends w seat t).after }
+        ensures { (w : World) → self.old ≡ shown w → self.new ≡ shown (lends built.levels w seat t).after }
     {
         self.threads.lend(t, seat);
     }

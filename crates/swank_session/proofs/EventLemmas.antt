@@ -138,13 +138,13 @@ pub record Lent (s new : Session) (t : ℕ) : Type 0 where
 pub lent-by : (s new : Session) (t : ℕ) → IsFree s → new ≡ with_entry s 0 (Lend t) → Lent s new t
 lent-by s new t h is =
     let w = at-world s new (Lend t) is in
-    let silent = lends_silent (world s) 0 t (thread_at (world s) t) in
+    let silent = lends_silent rules.built.levels (world s) 0 t (thread_at (world s) t) in
     record {
       drained = ap (λ (x : World). x.drained) w ∙ silent.drained;
       undrained = ap (λ (x : World). x.undrained) w ∙ silent.undrained;
       closed = ap (λ (x : World). x.closed) w ∙ silent.closed;
-      free = subst (λ (x : World). NoneLent (Some t) x.threads) (sym w) (lends_free (world s) 0 t (thread_at (world s) t) h.free);
-      later = later-entry s new (Lend t) is refl (ap (λ (x : World). x.ended) (world-entry s 0 (Lend t)) ∙ lends_ended (world s) 0 t (thread_at (world s) t));
+      free = subst (λ (x : World). NoneLent (Some t) x.threads) (sym w) (lends_free rules.built.levels (world s) 0 t (thread_at (world s) t) h.free);
+      later = later-entry s new (Lend t) is refl (ap (λ (x : World). x.ended) (world-entry s 0 (Lend t)) ∙ lends_ended rules.built.levels (world s) 0 t (thread_at (world s) t));
       live = live-entry s new (Lend t) is tt (no_step (steps_made s.journal) s.limits.steps h.live.within) h.live;
       left = same_left (steps_made new.journal) (steps_made s.journal) new.limits.steps s.limits.steps (steps-entry s new (Lend t) is) (ap (λ (x : Session). x.limits.steps) is);
     }

@@ -12,7 +12,7 @@ use Rattle.term_model.specs.Term.{split}
 use Rattle.step_model.specs.Image.{ImageState}
 use Rattle.step_model.specs.Now.{Now}
 use Rattle.step_model.specs.Rules.{Rules}
-use Rattle.step_model.specs.Step.{step}
+use Rattle.step_model.specs.AsBuilt.{step_as_built}
 use Rattle.session_model.specs.declared.event.Entry.{Entry}
 use Rattle.session_model.specs.declared.event.Event.{Event}
 use Rattle.session_model.specs.declared.event.Event.TheVariants.{Arrive, End, Lend, Burst, Drain}
@@ -82,7 +82,7 @@ settles_drained w t thread n true = refl
 settles_drained w t thread n false = refl
 
 step_drained : (rules : Rules) (w : World) (t : ℕ) (o : Option Thread) → (step_of rules w t o).after.drained ≡ w.drained
-step_drained rules w t (Some thread) = let n : Now = step rules (now_of w t thread) in settles_drained w t thread n (is_over t n)
+step_drained rules w t (Some thread) = let n : Now = step_as_built rules.built rules (now_of w t thread) in settles_drained w t thread n (is_over t n)
 step_drained rules w t None = refl
 
 steps_drained : (rules : Rules) (n t : ℕ) (w : World) → (steps rules n t w).after.drained ≡ w.drained
@@ -108,11 +108,11 @@ silent_break t zero b = refl
 silent_break t (suc n) true = refl
 silent_break t (suc n) false = refl
 
-pub lends_silent : (w : World) (seat t : ℕ) (o : Option Thread) → Lends (lends_thread w seat t o).after w
-lends_silent w seat t (Some thread) =
-    let told : List Label = broke_if t thread.interrupts (may_open (split thread.term).0) in
-    record { drained = refl; undrained = ap (λ ms. w.undrained ++ ms) (silent_break t thread.interrupts (may_open (split thread.term).0)) ∙ append-nil w.undrained; closed = refl }
-lends_silent w seat t None = record { drained = refl; undrained = refl; closed = refl }
+pub lends_silent : (most : ℕ) (w : World) (seat t : ℕ) (o : Option Thread) → Lends (lends_thread most w seat t o).after w
+lends_silent most w seat t (Some thread) =
+    let told : List Label = broke_if t thread.interrupts (may_open most (split thread.term).0) in
+    record { drained = refl; undrained = ap (λ ms. w.undrained ++ ms) (silent_break t thread.interrupts (may_open most (split thread.term).0)) ∙ append-nil w.undrained; closed = refl }
+lends_silent most w seat t None = record { drained = refl; undrained = refl; closed = refl }
 
 -- ---- no thread has the number 0
 
@@ -156,16 +156,16 @@ arrives_empty w (mail.ReturnString thread tag text) h = answers_empty w (named w
 arrives_empty w (mail.Return thread tag value) h = answers_empty w (named w thread) (mail.Return thread tag value) (thread_at w (named w thread)) refl h
 arrives_empty w (mail.Unreadable packet text) h = h
 
-lends_empty : (w : World) (seat t : ℕ) (o : Option Thread) → thread_at w t ≡ o → StartsEmpty w.threads → StartsEmpty (lends_thread w seat t o).after.threads
-lends_empty w seat t (Some thread) is h = set_empty w.threads t thread _ is h
-lends_empty w seat t None is h = h
+lends_empty : (most : ℕ) (w : World) (seat t : ℕ) (o : Option Thread) → thread_at w t ≡ o → StartsEmpty w.threads → StartsEmpty (lends_thread most w seat t o).after.threads
+lends_empty most w seat t (Some thread) is h = set_empty w.threads t thread _ is h
+lends_empty most w seat t None is h = h
 
 settles_empty : (w : World) (t : ℕ) (thread : Thread) (n : Now) (over : Bool) → thread_at w t ≡ Some thread → StartsEmpty w.threads → StartsEmpty (settles w t thread n over).after.threads
 settles_empty w t thread n true is h = set_empty w.threads t thread _ is h
 settles_empty w t thread n false is h = set_empty w.threads t thread _ is h
 
 step_empty : (rules : Rules) (w : World) (t : ℕ) (o : Option Thread) → thread_at w t ≡ o → StartsEmpty w.threads → StartsEmpty (step_of rules w t o).after.threads
-step_empty rules w t (Some thread) is h = let n : Now = step rules (now_of w t thread) in settles_empty w t thread n (is_over t n) is h
+step_empty rules w t (Some thread) is h = let n : Now = step_as_built rules.built rules (now_of w t thread) in settles_empty w t thread n (is_over t n) is h
 step_empty rules w t None is h = h
 
 steps_empty : (rules : Rules) (n t : ℕ) (w : World) → StartsEmpty w.threads → StartsEmpty (steps rules n t w).after.threads
@@ -179,7 +179,7 @@ unlent_empty w t None is h = h
 next_empty : (rules : Rules) (w : World) (seat : ℕ) (e : Event) → StartsEmpty w.threads → StartsEmpty (next rules w (record { seat = seat; event = e })).after.threads
 next_empty rules w seat (Arrive m) h = arrives_empty w m h
 next_empty rules w seat End h = h
-next_empty rules w seat (Lend t) h = lends_empty w seat t (thread_at w t) refl h
+next_empty rules w seat (Lend t) h = lends_empty rules.built.levels w seat t (thread_at w t) refl h
 next_empty rules w seat (Burst t n) h = let v : World = (steps rules n t w).after in unlent_empty v t (thread_at v t) refl (steps_empty rules n t w h)
 next_empty rules w seat (Drain k) h = h
 

@@ -6,14 +6,14 @@ use Rattle.session_model.specs.World.{Happened, Thread, World, silent, then, thr
 use Rattle.term_model.specs.Label.{Label}
 use Rattle.step_model.specs.Now.{Now}
 use Rattle.step_model.specs.Rules.{Rules}
-use Rattle.step_model.specs.Step.{step}
+use Rattle.step_model.specs.AsBuilt.{step_as_built}
 
 abbrev happened : World → List Label → Happened
 happened w ls = record { after = w; labels = ls }
 
 -- the step of a thread leaves this
 abbrev pub Leaves : Rules → World → ℕ → Now → Option Thread → Type 0
-Leaves rules w t n (Some thread) = step rules (now_of w t thread) ≡ n
+Leaves rules w t n (Some thread) = step_as_built rules.built rules (now_of w t thread) ≡ n
 Leaves rules w t n None = ⊥
 
 -- what it makes of the world then

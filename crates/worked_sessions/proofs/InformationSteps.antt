@@ -15,7 +15,7 @@ use Rattle.session_model.specs.Running.{returns, steps}
 use Rattle.session_model.specs.World.{Happened, World, then}
 use Rattle.step_model.specs.CurrentPackage.{package_variable}
 use Rattle.step_model.specs.Now.{Mailbox, Now}
-use Rattle.step_model.specs.Step.{step}
+use Rattle.step_model.specs.AsBuilt.{step_as_built}
 use Rattle.swank_rpc.specs.Info.{connection_info}
 use Rattle.term_model.specs.declared.focus.Focus.{Focus}
 use Rattle.term_model.specs.declared.focus.Focus.TheVariants as focus
@@ -35,7 +35,7 @@ use Rattle.worked_sessions.proofs.VariantLemmas.{form-list, form-sym}
 -- ---- the worker
 
 abbrev at : Context → Focus → Mailbox → List Label → Now
-at c f mailbox ls = record { thread = 2; context = c; redex = f; serial = 0; mailbox = mailbox; image = image; tag = 1; inspected = []; threads = 1 ∷ 2 ∷ []; labels = ls; over = false; closed = false }
+at c f mailbox ls = record { thread = 2; context = c; redex = f; serial = 0; mailbox = mailbox; image = image; tag = 1; inspected = []; threads = 1 ∷ 2 ∷ []; most = 0; labels = ls; over = false; closed = false }
 
 abbrev reply : Sexp
 reply = connection_info image
@@ -66,19 +66,19 @@ head = codes "SWANK:CONNECTION-INFO"
 weighs : weight_of asked ≡ 23
 weighs = simp (form-list, form-sym)
 
-takes : step rules (at [] (focus.Wait pattern.Rex) ((0, message) ∷ []) []) ≡ called
+takes : step_as_built rules.built rules (at [] (focus.Wait pattern.Rex) ((0, message) ∷ []) []) ≡ called
 unfolding limit
 takes = rw (form.outs-List (form.Sym head ∷ []), form.outs-Sym head, user-place) refl
 
-calls : step rules (record called { labels = [] }) ≡ answered
+calls : step_as_built rules.built rules (record called { labels = [] }) ≡ answered
 unfolding limit
 calls = rw (weighs, form.outs-List (form.Sym head ∷ []), form.outs-Sym head) refl
 
-passes : step rules answered ≡ passed
+passes : step_as_built rules.built rules answered ≡ passed
 unfolding limit
 passes = refl
 
-ends : step rules passed ≡ ended
+ends : step_as_built rules.built rules passed ≡ ended
 unfolding limit
 ends = refl
 

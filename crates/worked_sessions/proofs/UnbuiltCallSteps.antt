@@ -31,7 +31,7 @@ use Rattle.sexp_reader.specs.Reading as reading
 use Rattle.sexp_reader.specs.Reading.{read_of, is_full, complete, opened, closed, token_ended, begun_by, between, in_token, in_string, finish, run as run_reader}
 use Rattle.sexp_reader.specs.declared.placed.Placed.{Placed}
 use Rattle.step_model.specs.Now.{Mailbox, Now}
-use Rattle.step_model.specs.Step.{step}
+use Rattle.step_model.specs.AsBuilt.{step_as_built}
 use Rattle.swank_rpc.specs.Kept.{kept}
 use Rattle.swank_rpc.specs.Texts.{forms_of}
 use Rattle.syntax_trees.specs.declared.row.Row.{Row}
@@ -56,7 +56,7 @@ use Rattle.worked_sessions.proofs.VariantLemmas.{form-int, form-list, form-str, 
 -- ---- the thread
 
 abbrev at : Context → Focus → Mailbox → List Label → Now
-at c f mailbox ls = record { thread = 1; context = c; redex = f; serial = 0; mailbox = mailbox; image = image; tag = 1; inspected = []; threads = 1 ∷ []; labels = ls; over = false; closed = false }
+at c f mailbox ls = record { thread = 1; context = c; redex = f; serial = 0; mailbox = mailbox; image = image; tag = 1; inspected = []; threads = 1 ∷ []; most = 0; labels = ls; over = false; closed = false }
 
 abbrev car_form : Sexp
 car_form = form.List (form.Sym (codes "CAR") ∷ form.Int (pos 1) ∷ [])
@@ -134,19 +134,19 @@ parts = form.Sym head ∷ form.Str (codes "(car 1)") ∷ []
 abbrev kept_parts : List Sexp
 kept_parts = form.Sym (codes "T") ∷ form.Str user ∷ []
 
-takes : step rules (at [] (focus.Wait pattern.Rex) ((0, message) ∷ []) []) ≡ called
+takes : step_as_built rules.built rules (at [] (focus.Wait pattern.Rex) ((0, message) ∷ []) []) ≡ called
 unfolding limit
 takes = rw (form.outs-List parts, form.outs-Sym head) refl
 
-calls : step rules (record called { labels = [] }) ≡ reading_done
+calls : step_as_built rules.built rules (record called { labels = [] }) ≡ reading_done
 unfolding limit
 calls = rw (weighs, form.outs-List parts, form.outs-Sym head, form.outs-Str (codes "(car 1)"), text-forms, named-user) refl
 
-goes-in : step rules reading_done ≡ at_call
+goes-in : step_as_built rules.built rules reading_done ≡ at_call
 unfolding limit
 goes-in = rw (named-user, car-valued, car-parsed, row-node car_row (node one_row [] ∷ []), forms-node car_row (node one_row [] ∷ []), row-node car_row (node one_row [] ∷ []), row-node one_row []) refl
 
-leaves : step rules at_call ≡ ended
+leaves : step_as_built rules.built rules at_call ≡ ended
 unfolding limit
 leaves = refl
 

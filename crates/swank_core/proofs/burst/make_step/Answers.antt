@@ -7,7 +7,7 @@ use Rattle.server_rules.specs.Rules.{rules}
 use Rattle.server_rules.specs.Simple.{are_simple}
 use Rattle.session_model.specs.World.{repl}
 use Rattle.step_model.specs.Now.{Now}
-use Rattle.step_model.specs.Step.{step}
+use Rattle.step_model.specs.AsBuilt.{step_as_built}
 use Rattle.swank_core.specs.Threads.{number_of}
 use Rattle.swank_core.specs.declared.record.Record.{Record}
 use Rattle.swank_core.proofs.BurstLemmas.{one_step}
@@ -28,5 +28,5 @@ returns-clause-steps c = λ w s.
     one_step c.steps_leave_the_rest.ensures w old new c.args.image.now c.step.new.image c.args.outs.now c.step.new.outs c.ends.result c.requires.simple s
     (λ b. record { stack = done.stack b; mailbox = done.mailbox b; interrupts = refl; lent = refl; image_is = done.image b; outs = done.outs b })
     (λ b.
-    let n : Now = step rules (machine.now_of (number_of old) old.machine.stack old.mailbox c.args.image.now b) in
+    let n : Now = step_as_built rules.built rules (machine.now_of (number_of old) old.machine.stack old.mailbox c.args.image.now b) in
     c.ends.ensures ∙ ap (λ o. o && not (c.step.new.self.thread == repl)) (done.over b) ∙ ap (λ t. n.over && not (t == repl)) done.thread)
