@@ -9,13 +9,11 @@ use Rattle.lisp_data.specs.declared.value.Value.TheVariants as value
 use Rattle.lisp_data.specs.declared.value.Value.TheOpen.{Value-F}
 use Rattle.lisp_data.specs.declared.value.Value.TheViews.{out-Value}
 use Rattle.lisp_data.specs.declared.value.Condition.{Condition}
-use Rattle.lisp_errors.specs.Causes.{bad_directive, too_few_arguments}
-use Rattle.lisp_errors.specs.Limits.{value_too_large}
 use Rattle.lisp_errors.specs.Texts.{without_datum}
 use Rattle.lisp_errors.specs.declared.wanted.Wanted.TheVariants as wanted
+use Rattle.lisp_format.specs.Causes.{cause_of}
 use Rattle.lisp_format.specs.Formatted.{formatted}
 use Rattle.lisp_format.specs.declared.fault.FormatFault.{FormatFault}
-use Rattle.lisp_format.specs.declared.fault.FormatFault.TheVariants as fault
 use Rattle.lisp_data.specs.TypeNames.{name_of as type_name}
 use Rattle.lisp_types.specs.Kinds.{is_kind}
 use Rattle.lisp_builtins.specs.Answers.{refused_number, refused_kind}
@@ -53,9 +51,7 @@ of_plain current kind None = refused_kind current kind wanted.Condition
 -- the condition whose message is a control text's, or what a fault of that text raises
 abbrev pub of_message : TypeId → Result (List ℕ) FormatFault → Result Value Condition
 of_message t (Ok message) = Ok (condition_of t message)
-of_message t (Err fault.BadDirective) = Err bad_directive
-of_message t (Err fault.TooFewArguments) = Err too_few_arguments
-of_message t (Err _) = Err value_too_large
+of_message t (Err fault) = Err (cause_of fault)
 
 abbrev pub of_control : List ℕ → Value → Value → Value → Option TypeId → Value-F Value Condition → Value-F Value Condition → Result Value Condition
 of_control current kind control arguments (Some t) (Value-F.Str text) (Value-F.List xs) = of_message t (formatted current text xs)

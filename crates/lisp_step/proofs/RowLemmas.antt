@@ -25,6 +25,7 @@ use Rattle.step_model.specs.Perform.{perform, takes, takes_mail, took}
 use Rattle.step_model.specs.Perform as act
 use Rattle.step_model.specs.Requests.{before_forms, commanded, placed_found, resolved}
 use Rattle.step_model.specs.Requests as table
+use Rattle.step_model.specs.Roles.{role_of}
 use Rattle.step_model.specs.Rules.{Writing, Output, NewPackage}
 use Rattle.step_model.specs.Functions.{with_tree}
 use Rattle.step_model.specs.Act.{Goes, Changes}
@@ -139,17 +140,17 @@ module _ (t : ℕ) (mailbox : Mailbox) (image : ImageState) (b : Beside) where
   acts n a = after (announced (perform n (act_if (true && not (is_raise a)) n a)))
 
   parses : (s : StackState) (f : Focus) (p : Placed) (ps : List Placed) (origin : Option Origin) (packages : List Package) (tree : Result Ast Value) → are_simple s.context ≡ true
-      → acts (reads s f) (Changes (with_packages image packages) (with_tree (reads s f) tree (λ e. Goes (before_forms ps origin) (placed_found e (row_of e) origin p.at))))
+      → acts (reads s f) (Changes (with_packages image packages) (with_tree (reads s f) tree (λ e. Goes (before_forms ps origin) (placed_found e (role_of (row_of e)) origin p.at))))
       ≡ left_with (formed s p.at ps origin (tree_of (tree_with packages tree))) mailbox (image_with image (tree_with packages tree))
   parses s f p ps origin packages (Ok a) e =
       let n = record (reads s f) { image = with_packages image packages } in
-      let found = placed_found a (row_of a) origin p.at in
+      let found = placed_found a (role_of (row_of a)) origin p.at in
       goes-on (act.goes n (before_forms ps origin) found) n (gone (with_redex f s) (before_forms ps origin) found) (gone s (before_forms ps origin) found)
       (goes-gone n refl (before_forms ps origin) found e) (gone-any s f (before_forms ps origin) found) (gone-levels s (before_forms ps origin) found ∙ no_levels s.context e)
   parses s f p ps origin packages (Err bad) e = left s f e
 
   names : (s : StackState) (f : Focus) (p : Placed) (ps : List Placed) (origin : Option Origin) (found : Valued) → are_simple s.context ≡ true
-      → acts (reads s f) (or_refuse found (resolved rules (reads s f) p ps origin)) ≡ left_with (formed s p.at ps origin (tree_of (tree_in found))) mailbox (image_with image (tree_in found))
+      → acts (reads s f) (or_refuse found (resolved (reads s f) p ps origin)) ≡ left_with (formed s p.at ps origin (tree_of (tree_in found))) mailbox (image_with image (tree_in found))
   names s f p ps origin (Ok found) e = parses s f p ps origin found.0 (parsed found.1) e
   names s f p ps origin (Err why) e = left s f e
 

@@ -23,6 +23,7 @@ use Rattle.step_model.specs.Image.{ImageState, with_packages}
 use Rattle.step_model.specs.Now.{Mailbox}
 use Rattle.step_model.specs.Perform.{answer_in, is_top, package_bound}
 use Rattle.step_model.specs.Requests.{before_forms, placed_found}
+use Rattle.step_model.specs.Roles.{role_of}
 use Rattle.swank_rpc.specs.Calls.{is_served}
 use Rattle.swank_rpc.specs.Commands.{Given, answer_of, called, image_after}
 use Rattle.swank_rpc.specs.Finishes.{Ended, ended, written}
@@ -161,7 +162,7 @@ is_definition _ = false
 
 -- with the tree of a form that stands at this place, and the forms behind it
 abbrev pub formed : StackState → ℕ → List Placed → Option Origin → Option Ast → Done
-formed s at ps origin (Some e) = stays (gone s (before_forms ps origin) (placed_found e (row_of e) origin at))
+formed s at ps origin (Some e) = stays (gone s (before_forms ps origin) (placed_found e (role_of (row_of e)) origin at))
 formed s at ps origin None = leaves s
 
 abbrev pub first_resolved : ImageState → Context → Placed → Option (List Package × Ast)

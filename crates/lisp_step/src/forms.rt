@@ -1,6 +1,7 @@
 ghost use Rattle.std.specs.Prelude.{◌≡◌, ◌++◌, Some, IfOk, OnOk, is_some, true};
 ghost use Rattle.lisp_packages.specs.Naming.{in_named, valued};
 ghost use Rattle.step_model.specs.Requests.{before_forms, placed_found};
+ghost use Rattle.step_model.specs.Roles.{role_of};
 ghost use Rattle.lisp_syntax.specs.Parsing.{parsed};
 ghost use Rattle.syntax_trees.specs.Places.{row_of};
 ghost use Rattle.lisp_step.specs.Rows.{formed, gone, image_run, image_with, is_definition, packages_in, packages_with, resolved, runs, tree_of, tree_or_none, value_in};
@@ -108,7 +109,7 @@ fn placed_found(
     origin: &Option<Origin>,
     at: u64,
 ) -> Result<Found, NoMemory>
-    ensures { IfOk result (λ found. found ≡ placed_found tree (row_of tree) origin.now at) }
+    ensures { IfOk result (λ found. found ≡ placed_found tree (role_of (row_of tree)) origin.now at) }
 {
     match origin {
         Some(origin) => placed_in(alloc, tree, origin, at),
@@ -118,7 +119,7 @@ fn placed_found(
 
 #[tactic(auto, using(crate::proofs::FormLemmas::placed_plain))]
 fn placed_in(alloc: Global, tree: Code, origin: &Origin, at: u64) -> Result<Found, NoMemory>
-    ensures { IfOk result (λ found. found ≡ placed_found tree (row_of tree) (Some origin.now) at) }
+    ensures { IfOk result (λ found. found ≡ placed_found tree (role_of (row_of tree)) (Some origin.now) at) }
 {
     if !is_definition(&tree.get().row) {
         return look(alloc, &tree);
@@ -159,7 +160,7 @@ fn go_into(
     origin: Option<Origin>,
     stack: &mut Stack,
 ) -> Result<(), NoMemory>
-    ensures { OnOk result (stack.new ≡ gone stack.old (before_forms rest origin) (placed_found tree (row_of tree) origin at)) }
+    ensures { OnOk result (stack.new ≡ gone stack.old (before_forms rest origin) (placed_found tree (role_of (row_of tree)) origin at)) }
 {
     let found = placed_found(alloc, tree, &origin, at)?;
     let markers = before_forms(alloc, rest, origin)?;

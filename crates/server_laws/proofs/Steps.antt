@@ -43,6 +43,7 @@ use Rattle.step_model.specs.Kinds.{current, or_refuse}
 use Rattle.step_model.specs.Now.{Mailbox, Now, around, puts, tells}
 use Rattle.step_model.specs.Perform.{answer_in, exits, given, gives, gives_in, goes, lays, outcome_of, outward, package_bound, passes, perform, takes, takes_mail, took, written}
 use Rattle.step_model.specs.Requests.{asked, before_forms, commanded, finished, forms_row, placed_found, resolved}
+use Rattle.step_model.specs.Roles.{role_of}
 use Rattle.step_model.specs.Rules.{Writing, Output, NewPackage}
 use Rattle.step_model.specs.AsBuilt.{is_built, is_raise, is_row_built, limited, step_as_built}
 use Rattle.step_model.specs.Step.{begun}
@@ -281,17 +282,17 @@ module _ (Small : Type 0) where
   before_fit (p ∷ ps) origin = (tt, tt)
 
   tree_fits : (n : Now) (tree : Result Ast Value) (p : Placed) (ps : List Placed) (origin : Option Origin)
-      → is_raise (with_tree n tree (λ e. act.Goes (before_forms ps origin) (placed_found e (row_of e) origin p.at))) ≡ false
-      → ActFits (with_tree n tree (λ e. act.Goes (before_forms ps origin) (placed_found e (row_of e) origin p.at)))
-  tree_fits n (Ok e) p ps origin r = (before_fit ps origin, placed_simple e (row_of e) origin p.at)
+      → is_raise (with_tree n tree (λ e. act.Goes (before_forms ps origin) (placed_found e (role_of (row_of e)) origin p.at))) ≡ false
+      → ActFits (with_tree n tree (λ e. act.Goes (before_forms ps origin) (placed_found e (role_of (row_of e)) origin p.at)))
+  tree_fits n (Ok e) p ps origin r = (before_fit ps origin, placed_simple e (role_of (row_of e)) origin p.at)
   tree_fits n (Err bad) p ps origin r = absurd (true≢false r)
 
   resolved_fits : (n : Now) (p : Placed) (ps : List Placed) (origin : Option Origin) (named : Result (List Package × Value) NameFault)
-      → IsShortAnswer named → is_raise (or_refuse named (resolved rules n p ps origin)) ≡ false → ActFits (or_refuse named (resolved rules n p ps origin))
+      → IsShortAnswer named → is_raise (or_refuse named (resolved n p ps origin)) ≡ false → ActFits (or_refuse named (resolved n p ps origin))
   resolved_fits n p ps origin (Ok found) h r = (h, tree_fits n (parsed found.1) p ps origin r)
   resolved_fits n p ps origin (Err why) h r = absurd (true≢false r)
 
-  forms_fit : (n : Now) (forms : List Placed) (origin : Option Origin) → HasShortNames n.image → is_raise (forms_row rules n forms origin) ≡ false → ActFits (forms_row rules n forms origin)
+  forms_fit : (n : Now) (forms : List Placed) (origin : Option Origin) → HasShortNames n.image → is_raise (forms_row n forms origin) ≡ false → ActFits (forms_row n forms origin)
   forms_fit n [] origin h r = (tt, tt)
   forms_fit n (p ∷ ps) origin h r =
       let packages = n.image.packages in

@@ -10,8 +10,6 @@ use Rattle.sexp_reader.specs.declared.placed.Placed.{Placed}
 use Rattle.lisp_syntax.specs.Parsing.{parsed}
 use Rattle.syntax_trees.specs.declared.ast.Ast.{Ast}
 use Rattle.syntax_trees.specs.Places.{row_of}
-use Rattle.syntax_trees.specs.declared.row.Row.{Row}
-use Rattle.syntax_trees.specs.declared.row.Row.TheVariants as tree
 use Rattle.term_model.specs.declared.focus.Focus.{Focus}
 use Rattle.term_model.specs.declared.focus.Focus.TheVariants as focus
 use Rattle.term_model.specs.declared.focus.Origin.{Origin}
@@ -27,6 +25,7 @@ use Rattle.step_model.specs.Functions.{with_tree}
 use Rattle.step_model.specs.Kinds.{current, or_refuse}
 use Rattle.step_model.specs.Now.{Now, around}
 use Rattle.step_model.specs.Perform.{exits, perform}
+use Rattle.step_model.specs.Roles.{Role, Definition, role_of}
 use Rattle.step_model.specs.Requests.{asked, before_forms, commanded, finished, forms_row, placed_found, resolved}
 use Rattle.step_model.specs.AsBuilt.{act_if, is_act_built, is_built, is_raise, is_row_built, leaving, limited, step_as_built, step_or_leave}
 use Rattle.step_model.specs.Step.{begun}
@@ -60,22 +59,22 @@ before_plain [] origin = tt
 before_plain (p ∷ ps) origin = (refl, tt)
 
 -- the form of a text, with its place where it defines a function
-pub placed_simple : (a : Ast) (x : Row) (origin : Option Origin) (at : ℕ) → IsSimpleFound (placed_found a x origin at)
-placed_simple a (tree.Defun g ps) (Some origin) at = refl
+pub placed_simple : (a : Ast) (x : Role) (origin : Option Origin) (at : ℕ) → IsSimpleFound (placed_found a x origin at)
+placed_simple a (Definition g ps) (Some origin) at = refl
 placed_simple a x origin at = look_simple a
 
 tree_simple : (n : Now) (tree : Result Ast Value) (p : Placed) (ps : List Placed) (origin : Option Origin) (vs : List Value)
-    → is_raise (with_tree n tree (λ e. Goes (before_forms ps origin) (placed_found e (row_of e) origin p.at))) ≡ false
-    → IsSimpleAct vs (with_tree n tree (λ e. Goes (before_forms ps origin) (placed_found e (row_of e) origin p.at)))
-tree_simple n (Ok e) p ps origin vs r = (before_plain ps origin, placed_simple e (row_of e) origin p.at)
+    → is_raise (with_tree n tree (λ e. Goes (before_forms ps origin) (placed_found e (role_of (row_of e)) origin p.at))) ≡ false
+    → IsSimpleAct vs (with_tree n tree (λ e. Goes (before_forms ps origin) (placed_found e (role_of (row_of e)) origin p.at)))
+tree_simple n (Ok e) p ps origin vs r = (before_plain ps origin, placed_simple e (role_of (row_of e)) origin p.at)
 tree_simple n (Err bad) p ps origin vs r = absurd (true≢false r)
 
 resolved_simple : (n : Now) (p : Placed) (ps : List Placed) (origin : Option Origin) (named : Result (List Package × Value) NameFault)
-    → is_raise (or_refuse named (resolved rules n p ps origin)) ≡ false → IsSimpleAct n.inspected (or_refuse named (resolved rules n p ps origin))
+    → is_raise (or_refuse named (resolved n p ps origin)) ≡ false → IsSimpleAct n.inspected (or_refuse named (resolved n p ps origin))
 resolved_simple n p ps origin (Ok found) r = tree_simple n (parsed found.1) p ps origin n.inspected r
 resolved_simple n p ps origin (Err why) r = absurd (true≢false r)
 
-forms_simple : (n : Now) (forms : List Placed) (origin : Option Origin) → is_raise (forms_row rules n forms origin) ≡ false → IsSimpleAct n.inspected (forms_row rules n forms origin)
+forms_simple : (n : Now) (forms : List Placed) (origin : Option Origin) → is_raise (forms_row n forms origin) ≡ false → IsSimpleAct n.inspected (forms_row n forms origin)
 forms_simple n [] origin r = (tt, tt)
 forms_simple n (p ∷ ps) origin r = resolved_simple n p ps origin (in_named n.image.packages (current n) (λ i. valued i p.form n.image.packages)) r
 

@@ -1,4 +1,4 @@
--- What of the table of steps the program can do yet.
+-- What of the table of steps the program can do so far.
 use Rattle.std.specs.Prelude.{Bool, true, false, ◌∷◌}
 use Rattle.swank_rpc.specs.Calls.{is_served}
 use Rattle.step_model.specs.Built.{Built}

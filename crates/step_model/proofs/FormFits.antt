@@ -39,7 +39,7 @@ use Rattle.step_model.specs.Functions as functions
 use Rattle.step_model.specs.Image.{ImageState, global, is_special}
 use Rattle.step_model.specs.Kinds as kinds
 use Rattle.step_model.specs.Now.{Now}
-use Rattle.step_model.specs.Rules.{Rules}
+use Rattle.step_model.specs.OneStep.{alone, formatted}
 use Rattle.step_model.proofs.FitLemmas.{FoundFits, Place, PlainsFit, advanced_fits, body_fits, cond_fits, look_fits}
 use Rattle.step_model.proofs.PerformFits.{ActFits}
 use Rattle.step_model.proofs.TargetFits.{ValueFits, block_fits, catch_fits}
@@ -178,15 +178,15 @@ binds_handlers_row : (n : Now) → Busy n → (es : List Ast) (o : Result (List 
 binds_handlers_row n place es (Ok hs) = (place, (place.busy, tt), body_fits es)
 binds_handlers_row n place es (Err bad) = place
 
-simple_restart_row : (rules : Rules) (n : Now) → Busy n → (name : Symbol) (control : List ℕ) (vs : List Value) (es : List Ast) → ActFits (forms.simple_restart rules n name control vs es) (There n)
-simple_restart_row rules n place name control vs es = or_raise_row (There n) place (rules.formatted (kinds.current n) control vs) _ (λ text. (place, (place.busy, tt), body_fits es))
+simple_restart_row : (n : Now) → Busy n → (name : Symbol) (control : List ℕ) (vs : List Value) (es : List Ast) → ActFits (forms.simple_restart n name control vs es) (There n)
+simple_restart_row n place name control vs es = or_raise_row (There n) place (formatted (kinds.current n) control vs) _ (λ text. (place, (place.busy, tt), body_fits es))
 
-call_row_by : (rules : Rules) (n : Now) → Busy n → (g : Symbol) (vs : List Value) (o : Option Value) → Fits n (forms.call_row rules g vs o)
-call_row_by rules n place g vs (Some v) = value_row (There n) place v
-call_row_by rules n place g vs None = applies_row rules n place g vs
+call_row_by : (n : Now) → Busy n → (g : Symbol) (vs : List Value) (o : Option Value) → Fits n (forms.call_row g vs o)
+call_row_by n place g vs (Some v) = value_row (There n) place v
+call_row_by n place g vs None = applies_row n place g vs
 
-pub call_row_fits : (rules : Rules) (n : Now) → Busy n → (g : Symbol) (vs : List Value) → Fits n (forms.call rules g vs)
-call_row_fits rules n place g vs = call_row_by rules n place g vs (rules.alone g vs)
+pub call_row_fits : (n : Now) → Busy n → (g : Symbol) (vs : List Value) → Fits n (forms.call g vs)
+call_row_fits n place g vs = call_row_by n place g vs (alone g vs)
 
 bare_row : (n : Now) → Busy n → (b : Bare) (p : Progress) → Fits n (forms.bare_row b p)
 bare_row n place bare.If p = choice_row (There n) place p.rest _
@@ -205,10 +205,10 @@ bare_row n place bare.HandlerCase p = looks_inside_row (There n) place _ p.rest 
 bare_row n place bare.IgnoreErrors p = (place, (place.busy, tt), body_fits p.rest)
 bare_row n place bare.RestartCase p = looks_inside_row (There n) place _ p.rest place.busy
 
-named_row : (rules : Rules) (n : Now) → Busy n → (k : Named) (name : Symbol) (p : Progress) → Fits n (forms.named_row rules k name p)
-named_row rules n place named.Block name p = (place, (place.busy, tt), body_fits p.rest)
-named_row rules n place named.ReturnFrom name p = returns_row n place name _
-named_row rules n place named.Call g p = call_row_fits rules n place g p.values
+named_row : (n : Now) → Busy n → (k : Named) (name : Symbol) (p : Progress) → Fits n (forms.named_row k name p)
+named_row n place named.Block name p = (place, (place.busy, tt), body_fits p.rest)
+named_row n place named.ReturnFrom name p = returns_row n place name _
+named_row n place named.Call g p = call_row_fits n place g p.values
 
 held_row : (n : Now) → Busy n → (h : Holder) (x : Symbol) (p : Progress) → Fits n (forms.held_row h x p)
 held_row n place holder.DoTimes x p = dotimes_row n place x p p.values
@@ -216,23 +216,23 @@ held_row n place holder.DoList x p = dolist_row n place x p p.values
 held_row n place holder.Defvar x p = defvar_row n place x p p.values
 held_row n place holder.Defparameter x p = value_row (There n) place (value_of_symbol x)
 
-pub form_by_row : (rules : Rules) (n : Now) → Busy n → (r : Row) (p : Progress) → Fits n (forms.form_by rules n.context r p)
-form_by_row rules n place (row.Literal v) p = value_row (There n) place v
-form_by_row rules n place (row.Quote v) p = value_row (There n) place v
-form_by_row rules n place (row.Function s) p = value_row (There n) place (value_of_symbol s)
-form_by_row rules n place (row.Variable x) p = variable_row n place x (lexical x n.context)
-form_by_row rules n place (row.Bare b) p = bare_row n place b p
-form_by_row rules n place (row.Named k name) p = named_row rules n place k name p
-form_by_row rules n place (row.Held h x) p = held_row n place h x p
-form_by_row rules n place (row.Let bindings) p = (place, bindings_fit n.image bindings p.values (There n) place.busy, body_fits p.rest)
-form_by_row rules n place (row.LetStar bindings) p = let_star_row n place p _
-form_by_row rules n place (row.Setq xs) p = setq_row n place n.context xs p p.values
-form_by_row rules n place (row.Defun g ps) p = value_row (There n) place (value_of_symbol g)
-form_by_row rules n place (row.HandlerBind types) p = binds_handlers_row n place p.rest (forms.named_handlers types p.values)
-form_by_row rules n place (row.WithSimpleRestart name control arguments) p = simple_restart_row rules n place name control p.values p.rest
-form_by_row rules n place (row.InPackage d) p = in_package_row n place d
-form_by_row rules n place (row.Defpackage d uses exports) p =
-    or_refuse_row (There n) place (rules.with_package n.image.packages d uses exports) (forms.defines_package n (forms.name_in d)) (λ ps. (place, tt, tt))
-form_by_row rules n place row.CondClause p = value_row (There n) place nil
-form_by_row rules n place (row.HandlerClause kind x) p = value_row (There n) place nil
-form_by_row rules n place (row.RestartClause name parameters report) p = value_row (There n) place nil
+pub form_by_row : (n : Now) → Busy n → (r : Row) (p : Progress) → Fits n (forms.form_by n.context r p)
+form_by_row n place (row.Literal v) p = value_row (There n) place v
+form_by_row n place (row.Quote v) p = value_row (There n) place v
+form_by_row n place (row.Function s) p = value_row (There n) place (value_of_symbol s)
+form_by_row n place (row.Variable x) p = variable_row n place x (lexical x n.context)
+form_by_row n place (row.Bare b) p = bare_row n place b p
+form_by_row n place (row.Named k name) p = named_row n place k name p
+form_by_row n place (row.Held h x) p = held_row n place h x p
+form_by_row n place (row.Let bindings) p = (place, bindings_fit n.image bindings p.values (There n) place.busy, body_fits p.rest)
+form_by_row n place (row.LetStar bindings) p = let_star_row n place p _
+form_by_row n place (row.Setq xs) p = setq_row n place n.context xs p p.values
+form_by_row n place (row.Defun g ps) p = value_row (There n) place (value_of_symbol g)
+form_by_row n place (row.HandlerBind types) p = binds_handlers_row n place p.rest (forms.named_handlers types p.values)
+form_by_row n place (row.WithSimpleRestart name control arguments) p = simple_restart_row n place name control p.values p.rest
+form_by_row n place (row.InPackage d) p = in_package_row n place d
+form_by_row n place (row.Defpackage d uses exports) p =
+    or_refuse_row (There n) place (forms.with_package n.image.packages d uses exports) (forms.defines_package n (forms.name_in d)) (λ ps. (place, tt, tt))
+form_by_row n place row.CondClause p = value_row (There n) place nil
+form_by_row n place (row.HandlerClause kind x) p = value_row (There n) place nil
+form_by_row n place (row.RestartClause name parameters report) p = value_row (There n) place nil

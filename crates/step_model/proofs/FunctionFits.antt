@@ -12,6 +12,7 @@ use Rattle.lisp_data.specs.declared.value.Condition.{Condition}
 use Rattle.lisp_errors.specs.Limits.{is_condition_too_large, is_too_large}
 use Rattle.lisp_packages.specs.declared.fault.NameFault.{NameFault}
 use Rattle.lisp_data.specs.Symbols.{cl, value_of_symbol}
+use Rattle.lisp_syntax.specs.Parsing.{parsed}
 use Rattle.syntax_trees.specs.declared.ast.Ast.{Ast}
 use Rattle.term_model.specs.declared.found.Found.{Found}
 use Rattle.term_model.specs.declared.frame.Frame.TheVariants as frame
@@ -30,7 +31,7 @@ use Rattle.step_model.specs.Image.{Function, function}
 use Rattle.step_model.specs.Kinds as kinds
 use Rattle.step_model.specs.MachineFunctions.{machine_function}
 use Rattle.step_model.specs.Now.{Now}
-use Rattle.step_model.specs.Rules.{Rules}
+use Rattle.step_model.specs.OneStep.{formatted, outcome}
 use Rattle.step_model.proofs.FitLemmas.{FoundFits, Place, PlainsFit, body_fits, look_fits}
 use Rattle.step_model.proofs.PerformFits.{ActFits}
 use Rattle.step_model.proofs.TargetFits.{LeavingFits, abort_fits, invoking_fits}
@@ -95,26 +96,26 @@ module _ (d : Context) (place : Place d) where
   symbol_value_row n s true = value_row (value_of_symbol s)
   symbol_value_row n s false = gives_or_row (functions.value_now n s) (functions.unbound n s) place
 
-  formats_row : (rules : Rules) (n : Now) (destination control : Value) (vs : List Value) (b : Bool) → ActFits (functions.formats rules n destination control vs b) d
-  formats_row rules n destination control vs true =
-      or_wrong_row (kinds.string_of control) _ _ place (λ text. or_raise_row (rules.formatted (kinds.current n) text vs) (functions.formats_to n destination) (λ t. if_row (kinds.is_true destination) _ _ (prints_row t nil) (value_row (value.Str t))))
-  formats_row rules n destination control vs false = place
+  formats_row : (n : Now) (destination control : Value) (vs : List Value) (b : Bool) → ActFits (functions.formats n destination control vs b) d
+  formats_row n destination control vs true =
+      or_wrong_row (kinds.string_of control) _ _ place (λ text. or_raise_row (formatted (kinds.current n) text vs) (functions.formats_to n destination) (λ t. if_row (kinds.is_true destination) _ _ (prints_row t nil) (value_row (value.Str t))))
+  formats_row n destination control vs false = place
 
   made_condition_row : (n : Now) (datum : Value) (o : Option (Result Value Condition)) (go : Condition → Act) → ((c : Condition) → ActFits (go c) d) → ActFits (functions.made_condition n datum o go) d
   made_condition_row n datum (Some (Ok v)) go k = or_wrong_row (kinds.condition_of v) _ go place k
   made_condition_row n datum (Some (Err c)) go k = place
   made_condition_row n datum None go k = place
 
-  datum_row_in : (rules : Rules) (n : Now) (kind : TypeId) (datum : Value) (vs : List Value) (go : Condition → Act) (x : Value-F Value Condition) → ((c : Condition) → ActFits (go c) d) → ActFits (functions.datum_condition rules n kind datum vs go x) d
-  datum_row_in rules n kind datum vs go (Value-F.Str control) k =
-      or_raise_row (rules.formatted (kinds.current n) control vs) _ (λ text. unless_row (is_condition_too_large _) (go _) (k _))
-  datum_row_in rules n kind datum vs go (Value-F.Sym s) k = if_row (functions.names_condition s) _ _ (made_condition_row n datum (rules.outcome (kinds.current n) (cl (codes "MAKE-CONDITION")) (datum ∷ vs)) go k) place
-  datum_row_in rules n kind datum vs go (Value-F.Cond c) k = k c
-  datum_row_in rules n kind datum vs go (Value-F.Int z) k = place
-  datum_row_in rules n kind datum vs go (Value-F.List items) k = place
+  datum_row_in : (n : Now) (kind : TypeId) (datum : Value) (vs : List Value) (go : Condition → Act) (x : Value-F Value Condition) → ((c : Condition) → ActFits (go c) d) → ActFits (functions.datum_condition n kind datum vs go x) d
+  datum_row_in n kind datum vs go (Value-F.Str control) k =
+      or_raise_row (formatted (kinds.current n) control vs) _ (λ text. unless_row (is_condition_too_large _) (go _) (k _))
+  datum_row_in n kind datum vs go (Value-F.Sym s) k = if_row (functions.names_condition s) _ _ (made_condition_row n datum (outcome (kinds.current n) (cl (codes "MAKE-CONDITION")) (datum ∷ vs)) go k) place
+  datum_row_in n kind datum vs go (Value-F.Cond c) k = k c
+  datum_row_in n kind datum vs go (Value-F.Int z) k = place
+  datum_row_in n kind datum vs go (Value-F.List items) k = place
 
-  datum_row : (rules : Rules) (n : Now) (kind : TypeId) (datum : Value) (vs : List Value) (go : Condition → Act) → ((c : Condition) → ActFits (go c) d) → ActFits (functions.with_datum rules n kind datum vs go) d
-  datum_row rules n kind datum vs go k = datum_row_in rules n kind datum vs go (out-Value datum) k
+  datum_row : (n : Now) (kind : TypeId) (datum : Value) (vs : List Value) (go : Condition → Act) → ((c : Condition) → ActFits (go c) d) → ActFits (functions.with_datum n kind datum vs go) d
+  datum_row n kind datum vs go k = datum_row_in n kind datum vs go (out-Value datum) k
 
   pub exits_or_row : (o : Option Leaving) (otherwise : Act) → LeavingFits o d → ActFits otherwise d → ActFits (functions.exits_or o otherwise) d
   exits_or_row (Some x) otherwise h g = (place.layers, h)
@@ -147,46 +148,46 @@ condition_row n place v go k = or_wrong_row (There n) place (kinds.condition_of 
 designated_row : (n : Now) → Busy n → (v : Value) (go : List ℕ → Act) → ((x : List ℕ) → ActFits (go x) (There n)) → ActFits (kinds.with_designated n v go) (There n)
 designated_row n place v go k = or_wrong_row (There n) place (kinds.designated_in (out-Value v)) _ go place k
 
-called_row : (rules : Rules) (n : Now) → Busy n → (g : MachineFunction) (vs : List Value) → ActFits (functions.called rules n g vs) (There n)
-called_row rules n place f.Funcall (g ∷ vs) = symbol_row n place g _ (λ s. (place, tt, refl))
-called_row rules n place f.Apply (g ∷ v ∷ vs) = symbol_row n place g _ (λ s. spread_row (There n) place n (functions.calls s) v vs (λ ws. (place, tt, refl)))
-called_row rules n place f.Mapcar (g ∷ list ∷ []) = symbol_row n place g _ (λ s. list_row n place list _ (λ items. maps_row (There n) place s items 0 (Some [])))
-called_row rules n place f.Mapc (g ∷ list ∷ []) = symbol_row n place g _ (λ s. list_row n place list _ (λ items. maps_row (There n) place s items 0 None))
-called_row rules n place f.Eval (form ∷ []) = tree_row (There n) place n (rules.tree form) _ (λ e. (place, (place.busy, tt), look_fits e))
-called_row rules n place f.SymbolValue (v ∷ []) = symbol_row n place v _ (λ s. symbol_value_row (There n) place n s (functions.is_constant s))
-called_row rules n place f.Set (v ∷ x ∷ []) = symbol_row n place v _ (λ s. value_row (There n) place x)
-called_row rules n place f.Boundp (v ∷ []) = symbol_row n place v _ (λ s. (place, tt, tt))
-called_row rules n place f.Fboundp (v ∷ []) = symbol_row n place v _ (λ s. (place, tt, tt))
-called_row rules n place f.Intern (v ∷ []) = string_row n place v _ (λ name. or_refuse_row (There n) place _ (functions.named_value n) (λ found. value_row (There n) place (value_of_symbol found.1)))
-called_row rules n place f.FindSymbol (v ∷ []) = string_row n place v _ (λ name. (place, tt, tt))
-called_row rules n place f.Export (v ∷ []) = symbol_row n place v _ (λ s. or_refuse_row (There n) place _ (functions.packages_changed n) (λ ps. value_row (There n) place yes))
-called_row rules n place f.UsePackage (v ∷ []) = designated_row n place v _ (λ name. or_refuse_row (There n) place _ (functions.packages_changed n) (λ ps. value_row (There n) place yes))
-called_row rules n place f.Format (destination ∷ control ∷ vs) = formats_row (There n) place rules n destination control vs (functions.is_destination (out-Value destination))
-called_row rules n place f.Princ (v ∷ []) = prints_row (There n) place _ v
-called_row rules n place f.Prin1 (v ∷ []) = prints_row (There n) place _ v
-called_row rules n place f.Print (v ∷ []) = prints_row (There n) place _ v
-called_row rules n place f.WriteString (v ∷ []) = string_row n place v _ (λ text. prints_row (There n) place text v)
-called_row rules n place f.WriteLine (v ∷ []) = string_row n place v _ (λ text. prints_row (There n) place (text ++ 10 ∷ []) v)
-called_row rules n place f.Terpri [] = prints_row (There n) place (10 ∷ []) nil
-called_row rules n place f.ReadLine [] = place
-called_row rules n place f.YesOrNo [] = place
-called_row rules n place f.YesOrNo (control ∷ vs) = string_row n place control _ (λ text. or_raise_row (There n) place (rules.formatted (kinds.current n) text vs) _ (λ t. place))
-called_row rules n place f.Signal (datum ∷ vs) = datum_row (There n) place rules n type.SimpleCondition datum vs functions.signalling (λ c. (place, tt, refl))
-called_row rules n place f.Error (datum ∷ vs) = datum_row (There n) place rules n type.SimpleError datum vs act.Raises (λ c. place)
-called_row rules n place f.Cerror (control ∷ datum ∷ vs) =
-    string_row n place control _ (λ text. or_raise_row (There n) place (rules.formatted (kinds.current n) text vs) _ (λ report.
-    datum_row (There n) place rules n type.SimpleError datum vs (functions.continuable report) (λ c. (place, (place.busy, (refl, tt)), refl))))
-called_row rules n place f.Warn (datum ∷ vs) = datum_row (There n) place rules n type.SimpleWarning datum vs functions.warns (λ c. (place, (place.busy, (refl, tt)), refl))
-called_row rules n place f.Break [] = (place, (place.busy, tt), refl)
-called_row rules n place f.Break (datum ∷ vs) = datum_row (There n) place rules n type.SimpleCondition datum vs (functions.enters_inside functions.break_offer) (λ c. (place, (place.busy, tt), refl))
-called_row rules n place f.InvokeDebugger (v ∷ []) = condition_row n place v _ (λ c. (place, tt, refl))
-called_row rules n place f.InvokeRestart (v ∷ vs) = symbol_row n place v _ (λ name. invokes_row n place name vs (functions.no_such_restart n name) place)
-called_row rules n place f.FindRestart (v ∷ []) = symbol_row n place v _ (λ name. (place, tt, tt))
-called_row rules n place f.ComputeRestarts [] = made_row (There n) place _
-called_row rules n place f.Abort [] = (place.layers, abort_fits n.context)
-called_row rules n place f.Continue [] = invokes_row n place _ [] (kinds.gives_value nil) (value_row (There n) place nil)
-called_row rules n place f.MuffleWarning [] = invokes_row n place functions.muffle_warning [] (functions.no_such_restart n functions.muffle_warning) place
-called_row rules n place g vs = place
+called_row : (n : Now) → Busy n → (g : MachineFunction) (vs : List Value) → ActFits (functions.called n g vs) (There n)
+called_row n place f.Funcall (g ∷ vs) = symbol_row n place g _ (λ s. (place, tt, refl))
+called_row n place f.Apply (g ∷ v ∷ vs) = symbol_row n place g _ (λ s. spread_row (There n) place n (functions.calls s) v vs (λ ws. (place, tt, refl)))
+called_row n place f.Mapcar (g ∷ list ∷ []) = symbol_row n place g _ (λ s. list_row n place list _ (λ items. maps_row (There n) place s items 0 (Some [])))
+called_row n place f.Mapc (g ∷ list ∷ []) = symbol_row n place g _ (λ s. list_row n place list _ (λ items. maps_row (There n) place s items 0 None))
+called_row n place f.Eval (form ∷ []) = tree_row (There n) place n (parsed form) _ (λ e. (place, (place.busy, tt), look_fits e))
+called_row n place f.SymbolValue (v ∷ []) = symbol_row n place v _ (λ s. symbol_value_row (There n) place n s (functions.is_constant s))
+called_row n place f.Set (v ∷ x ∷ []) = symbol_row n place v _ (λ s. value_row (There n) place x)
+called_row n place f.Boundp (v ∷ []) = symbol_row n place v _ (λ s. (place, tt, tt))
+called_row n place f.Fboundp (v ∷ []) = symbol_row n place v _ (λ s. (place, tt, tt))
+called_row n place f.Intern (v ∷ []) = string_row n place v _ (λ name. or_refuse_row (There n) place _ (functions.named_value n) (λ found. value_row (There n) place (value_of_symbol found.1)))
+called_row n place f.FindSymbol (v ∷ []) = string_row n place v _ (λ name. (place, tt, tt))
+called_row n place f.Export (v ∷ []) = symbol_row n place v _ (λ s. or_refuse_row (There n) place _ (functions.packages_changed n) (λ ps. value_row (There n) place yes))
+called_row n place f.UsePackage (v ∷ []) = designated_row n place v _ (λ name. or_refuse_row (There n) place _ (functions.packages_changed n) (λ ps. value_row (There n) place yes))
+called_row n place f.Format (destination ∷ control ∷ vs) = formats_row (There n) place n destination control vs (functions.is_destination (out-Value destination))
+called_row n place f.Princ (v ∷ []) = prints_row (There n) place _ v
+called_row n place f.Prin1 (v ∷ []) = prints_row (There n) place _ v
+called_row n place f.Print (v ∷ []) = prints_row (There n) place _ v
+called_row n place f.WriteString (v ∷ []) = string_row n place v _ (λ text. prints_row (There n) place text v)
+called_row n place f.WriteLine (v ∷ []) = string_row n place v _ (λ text. prints_row (There n) place (text ++ 10 ∷ []) v)
+called_row n place f.Terpri [] = prints_row (There n) place (10 ∷ []) nil
+called_row n place f.ReadLine [] = place
+called_row n place f.YesOrNo [] = place
+called_row n place f.YesOrNo (control ∷ vs) = string_row n place control _ (λ text. or_raise_row (There n) place (formatted (kinds.current n) text vs) _ (λ t. place))
+called_row n place f.Signal (datum ∷ vs) = datum_row (There n) place n type.SimpleCondition datum vs functions.signalling (λ c. (place, tt, refl))
+called_row n place f.Error (datum ∷ vs) = datum_row (There n) place n type.SimpleError datum vs act.Raises (λ c. place)
+called_row n place f.Cerror (control ∷ datum ∷ vs) =
+    string_row n place control _ (λ text. or_raise_row (There n) place (formatted (kinds.current n) text vs) _ (λ report.
+    datum_row (There n) place n type.SimpleError datum vs (functions.continuable report) (λ c. (place, (place.busy, (refl, tt)), refl))))
+called_row n place f.Warn (datum ∷ vs) = datum_row (There n) place n type.SimpleWarning datum vs functions.warns (λ c. (place, (place.busy, (refl, tt)), refl))
+called_row n place f.Break [] = (place, (place.busy, tt), refl)
+called_row n place f.Break (datum ∷ vs) = datum_row (There n) place n type.SimpleCondition datum vs (functions.enters_inside functions.break_offer) (λ c. (place, (place.busy, tt), refl))
+called_row n place f.InvokeDebugger (v ∷ []) = condition_row n place v _ (λ c. (place, tt, refl))
+called_row n place f.InvokeRestart (v ∷ vs) = symbol_row n place v _ (λ name. invokes_row n place name vs (functions.no_such_restart n name) place)
+called_row n place f.FindRestart (v ∷ []) = symbol_row n place v _ (λ name. (place, tt, tt))
+called_row n place f.ComputeRestarts [] = made_row (There n) place _
+called_row n place f.Abort [] = (place.layers, abort_fits n.context)
+called_row n place f.Continue [] = invokes_row n place _ [] (kinds.gives_value nil) (value_row (There n) place nil)
+called_row n place f.MuffleWarning [] = invokes_row n place functions.muffle_warning [] (functions.no_such_restart n functions.muffle_warning) place
+called_row n place g vs = place
 
 -- ---- user functions
 
@@ -235,9 +236,9 @@ applies_other_row : (n : Now) → Busy n → (g : Symbol) (vs : List Value) (o :
 applies_other_row n place g vs (Some outcome) = or_raise_row (There n) place outcome kinds.gives_value (λ v. value_row (There n) place v)
 applies_other_row n place g vs None = calls_user_row n place g vs (function n.image g)
 
-applies_by_row : (rules : Rules) (n : Now) → Busy n → (g : Symbol) (vs : List Value) (o : Option MachineFunction) → ActFits (functions.applies_by rules n g vs o) (There n)
-applies_by_row rules n place g vs (Some m) = called_row rules n place m vs
-applies_by_row rules n place g vs None = applies_other_row n place g vs (rules.outcome (kinds.current n) g vs)
+applies_by_row : (n : Now) → Busy n → (g : Symbol) (vs : List Value) (o : Option MachineFunction) → ActFits (functions.applies_by n g vs o) (There n)
+applies_by_row n place g vs (Some m) = called_row n place m vs
+applies_by_row n place g vs None = applies_other_row n place g vs (outcome (kinds.current n) g vs)
 
-pub applies_row : (rules : Rules) (n : Now) → Busy n → (g : Symbol) (vs : List Value) → ActFits (functions.applies rules n g vs) (There n)
-applies_row rules n place g vs = applies_by_row rules n place g vs (machine_function g)
+pub applies_row : (n : Now) → Busy n → (g : Symbol) (vs : List Value) → ActFits (functions.applies n g vs) (There n)
+applies_row n place g vs = applies_by_row n place g vs (machine_function g)

@@ -17,6 +17,7 @@ pub mod ListedLemmas
 pub mod ShallowLemmas
 pub mod StaleLemmas
 pub mod MachineFunctionLemmas
+pub mod OneStepLemmas
 pub mod RoomLemmas
 pub mod ExitRooms
 pub mod KeepsRoom

@@ -45,12 +45,14 @@ use Rattle.step_model.specs.Facts.{bares, waits}
 use Rattle.step_model.specs.Forms as forms
 use Rattle.step_model.specs.Kinds as kinds
 use Rattle.step_model.specs.Kinds.{gives_value, integer_in, list_in}
-use Rattle.step_model.specs.Listed.{GivesAlone, is_given, is_integer, is_lexical_in, is_list, is_listed, is_listed_bare, is_listed_call, is_listed_form, is_listed_function, is_listed_held, is_listed_marker, is_listed_named, is_listed_plain, is_listed_setq, is_none_or}
+use Rattle.step_model.specs.Listed.{is_given, is_integer, is_lexical_in, is_list, is_listed, is_listed_bare, is_listed_call, is_listed_form, is_listed_held, is_listed_marker, is_listed_named, is_listed_plain, is_listed_setq, is_none_or}
 use Rattle.step_model.specs.Local.{Spot, has_room, is_announced, is_inside, is_local, is_local_act, is_of_term, is_quiet, of_term, step_has_room}
 use Rattle.step_model.specs.Perform.{perform}
+use Rattle.step_model.specs.OneStep.{alone, is_listed_function, outcome}
 use Rattle.step_model.specs.Rules.{Rules}
 use Rattle.step_model.specs.Table.{decide, given_row}
 use Rattle.step_model.proofs.BareLemmas.{SameBares, bares-with_lexical}
+use Rattle.step_model.proofs.OneStepLemmas.{listed_alone}
 use Rattle.step_model.proofs.LocalLemmas.{act_made, act_spot, entered_alone, given_to, gives_alone, goes_alone, lays_alone, lays_alone_if, performed_alone}
 
 -- ---- a lexical variable that has a value can be assigned
@@ -211,27 +213,27 @@ given_is (Some (Ok v)) h = (v, refl)
 given_is (Some (Err condition)) h = absurd (false≢true h)
 given_is None h = absurd (false≢true h)
 
-called_goes : (rules : Rules) (c : Context) (g : Symbol) (vs : List Value) (v : Value) (o : Option Value) → o ≡ Some v → Goes c (forms.call_row rules g vs o)
-called_goes rules c g vs v (Some w) h = refl
-called_goes rules c g vs v None h = absurd (cc)
+called_goes : (c : Context) (g : Symbol) (vs : List Value) (v : Value) (o : Option Value) → o ≡ Some v → Goes c (forms.call_row g vs o)
+called_goes c g vs v (Some w) h = refl
+called_goes c g vs v None h = absurd (cc)
 
-call_goes : (rules : Rules) (current : List ℕ) (c : Context) (g : Symbol) (vs : List Value) → GivesAlone rules → is_listed_call rules current g vs ≡ true → Goes c (forms.call rules g vs)
-call_goes rules current c g vs gives h =
-    let v = given_is (rules.outcome current g vs) (and_right (is_listed_function g) (is_given (rules.outcome current g vs)) h) in
-    called_goes rules c g vs v.0 (rules.alone g vs) (gives current g vs v.0 (and_left (is_listed_function g) (is_given (rules.outcome current g vs)) h) v.1)
+call_goes : (current : List ℕ) (c : Context) (g : Symbol) (vs : List Value) → is_listed_call current g vs ≡ true → Goes c (forms.call g vs)
+call_goes current c g vs h =
+    let v = given_is (outcome current g vs) (and_right (is_listed_function g) (is_given (outcome current g vs)) h) in
+    called_goes c g vs v.0 (alone g vs) (listed_alone current g vs v.0 (and_left (is_listed_function g) (is_given (outcome current g vs)) h) v.1)
 
-named_goes : (rules : Rules) (current : List ℕ) (c : Context) (k : Named) (g : Symbol) (p : Progress) → GivesAlone rules → is_listed_named rules current k g p.values ≡ true → Goes c (forms.named_row rules k g p)
-named_goes rules current c named.Call g p gives h = call_goes rules current c g p.values gives h
-named_goes rules current c named.Block g p gives h = absurd (false≢true h)
-named_goes rules current c named.ReturnFrom g p gives h = absurd (false≢true h)
+named_goes : (current : List ℕ) (c : Context) (k : Named) (g : Symbol) (p : Progress) → is_listed_named current k g p.values ≡ true → Goes c (forms.named_row k g p)
+named_goes current c named.Call g p h = call_goes current c g p.values h
+named_goes current c named.Block g p h = absurd (false≢true h)
+named_goes current c named.ReturnFrom g p h = absurd (false≢true h)
 
-form_goes : (rules : Rules) (current : List ℕ) (c : Context) (r : Row) (p : Progress) → GivesAlone rules → is_listed_form rules current c r p ≡ true → Goes c (forms.form_by rules c r p)
-form_goes rules current c (row.Bare b) p gives h = bare_goes c b p h
-form_goes rules current c (row.Named k g) p gives h = named_goes rules current c k g p gives h
-form_goes rules current c (row.Held k x) p gives h = held_goes c k x p h
-form_goes rules current c (row.Variable x) p gives h = variable_goes c x (lexical x c) h
-form_goes rules current c (row.Setq xs) p gives h = setq_goes c xs p p.values h
-form_goes rules current c r p gives h = absurd (false≢true h)
+form_goes : (current : List ℕ) (c : Context) (r : Row) (p : Progress) → is_listed_form current c r p ≡ true → Goes c (forms.form_by c r p)
+form_goes current c (row.Bare b) p h = bare_goes c b p h
+form_goes current c (row.Named k g) p h = named_goes current c k g p h
+form_goes current c (row.Held k x) p h = held_goes c k x p h
+form_goes current c (row.Variable x) p h = variable_goes c x (lexical x c) h
+form_goes current c (row.Setq xs) p h = setq_goes c xs p p.values h
+form_goes current c r p h = absurd (false≢true h)
 
 -- ---- nothing is announced
 
@@ -394,14 +396,14 @@ marker_local rules c v h i = absurd (false≢true h)
 inner_local : (rules : Rules) (current : List ℕ) (c : Context) (f : Focus) → Goes c (decide rules c f) → not (waits c) ≡ true → IsLocal c f (decide rules c f)
 inner_local rules current c f h i = going_local c f (decide rules c f) h (not_waits (waits c) i)
 
-decided_listed : (rules : Rules) (current : List ℕ) (c : Context) (f : Focus) → GivesAlone rules → is_listed rules current c f ≡ true → is_inside c f ≡ true → IsLocal c f (decide rules c f)
-decided_listed rules current c (focus.Given (outcome.Value v)) gives h i = marker_local rules c v h i
-decided_listed rules current c (focus.Form p) gives h i = inner_local rules current c (focus.Form p) (form_goes rules current c p.row p gives h) i
-decided_listed rules current c (focus.Loop es) gives h i = inner_local rules current c (focus.Loop es) refl i
-decided_listed rules current c (focus.DoTimes x k count es) gives h i = inner_local rules current c (focus.DoTimes x k count es) (counts_goes c x k count es (out-Value count) h) i
-decided_listed rules current c (focus.DoList x k list es) gives h i = inner_local rules current c (focus.DoList x k list es) (lists_goes c x k list es (out-Value list) h) i
-decided_listed rules current c (focus.Apply g vs) gives h i = inner_local rules current c (focus.Apply g vs) (call_goes rules current c g vs gives h) i
-decided_listed rules current c f gives h i = absurd (false≢true h)
+decided_listed : (rules : Rules) (current : List ℕ) (c : Context) (f : Focus) → is_listed current c f ≡ true → is_inside c f ≡ true → IsLocal c f (decide rules c f)
+decided_listed rules current c (focus.Given (outcome.Value v)) h i = marker_local rules c v h i
+decided_listed rules current c (focus.Form p) h i = inner_local rules current c (focus.Form p) (form_goes current c p.row p h) i
+decided_listed rules current c (focus.Loop es) h i = inner_local rules current c (focus.Loop es) refl i
+decided_listed rules current c (focus.DoTimes x k count es) h i = inner_local rules current c (focus.DoTimes x k count es) (counts_goes c x k count es (out-Value count) h) i
+decided_listed rules current c (focus.DoList x k list es) h i = inner_local rules current c (focus.DoList x k list es) (lists_goes c x k list es (out-Value list) h) i
+decided_listed rules current c (focus.Apply g vs) h i = inner_local rules current c (focus.Apply g vs) (call_goes current c g vs h) i
+decided_listed rules current c f h i = absurd (false≢true h)
 
-pub listed_local : (rules : Rules) (current : List ℕ) (c : Context) (f : Focus) → GivesAlone rules → is_listed rules current c f ≡ true → is_inside c f ≡ true → step_has_room rules c f ≡ true → is_local rules c f ≡ true
-listed_local rules current c f gives h i r = both (is_inside c f) _ i (decided_listed rules current c f gives h i r)
+pub listed_local : (rules : Rules) (current : List ℕ) (c : Context) (f : Focus) → is_listed current c f ≡ true → is_inside c f ≡ true → step_has_room rules c f ≡ true → is_local rules c f ≡ true
+listed_local rules current c f h i r = both (is_inside c f) _ i (decided_listed rules current c f h i r)

@@ -56,7 +56,7 @@ found : (p : MachineFunction → Bool) (gs : List MachineFunction) (g : MachineF
 found p [] g e = absurd (cc)
 found p (a ∷ gs) g e = found-at p a g (p a) (find p gs) refl (found p gs g) e
 
-symbol-from : (s : Symbol) (home name : List ℕ) → s.home ≡ home → s.name ≡ name → s ≡ record { home = home; name = name }
+pub symbol-from : (s : Symbol) (home name : List ℕ) → s.home ≡ home → s.name ≡ name → s ≡ record { home = home; name = name }
 symbol-from s home name first second = ap (λ (h : List ℕ). let t : Symbol = record { home = h; name = s.name } in t) first ∙ ap (λ (n : List ℕ). let t : Symbol = record { home = home; name = n } in t) second
 
 back-at : (s : Symbol) (g : MachineFunction) (home : Bool) → is_of_common_lisp s ≡ home → (if home then machine_named s.name else None) ≡ Some g → s ≡ cl (machine_name g)

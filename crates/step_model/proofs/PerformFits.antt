@@ -16,8 +16,6 @@ use Rattle.rpc_messages.specs.declared.pattern.Pattern.{Pattern}
 use Rattle.rpc_messages.specs.declared.pattern.Pattern.TheVariants as pattern
 use Rattle.syntax_trees.specs.declared.ast.Ast.{Ast}
 use Rattle.syntax_trees.specs.Places.{forms_of, row_of}
-use Rattle.syntax_trees.specs.declared.row.Row.{Row}
-use Rattle.syntax_trees.specs.declared.row.Row.TheVariants as row
 use Rattle.term_model.specs.declared.focus.Focus.TheVariants as focus
 use Rattle.term_model.specs.declared.found.Found.TheVariants.{Already, Here}
 use Rattle.term_model.specs.declared.frame.Frame.{Frame}
@@ -49,6 +47,7 @@ use Rattle.step_model.specs.CurrentPackage.{binds_package, bound_package}
 use Rattle.step_model.specs.Facts.{FocusFits, IsSound, LayersFit, TargetFits, bares, waits}
 use Rattle.step_model.specs.Now.{Mailbox, Now, around, tells}
 use Rattle.step_model.specs.Perform.{outcome_of, after_leaving, answer_in, asks, assigns, assigns_or, awaited, begins, breaks_if, brings, calls_again, clause_bound, condition_bound, enters_if, exits, interrupted, lands, offering, outward, package_bound, parameters_bound, passes, perform, protects, protects_value, runs, runs_action, runs_clause, runs_handler, runs_offer, sets, sets_or, takes, takes_mail, took, turned, written}
+use Rattle.step_model.specs.Roles.{Role, HandlerClause, RestartClause, role_of}
 use Rattle.step_model.proofs.BareLemmas.{SameBares, bares-stir, bares-with_dynamic, bares-with_lexical}
 use Rattle.step_model.proofs.FitLemmas.{FoundFits, Place, PlainsFit, Sound, body_fits, exhausted_place, gives_fits, goes_fits, lays_fits, look_fits, opens_fits, redex_stands}
 use Rattle.step_model.proofs.TargetFits.{LeavesWell, TodoFits, abort_fits, brings_nothing, leaves_well}
@@ -94,13 +93,13 @@ package_fits false v d e = tt
 goes_nil : (n : Now) → Place (bares n.context) → Sound n (runs_handler n None [])
 goes_nil n place = goes_fits n [] (Already nil) place tt tt
 
-clause_bound_fit : (r : Row) (vs : List Value) (d : Context) → waits d ≡ false → PlainsFit (clause_bound r vs) d
-clause_bound_fit (row.HandlerClause kind x) vs d e = condition_fits x vs d e
-clause_bound_fit (row.RestartClause name parameters report) vs d e = parameters_fit parameters vs d e
+clause_bound_fit : (r : Role) (vs : List Value) (d : Context) → waits d ≡ false → PlainsFit (clause_bound r vs) d
+clause_bound_fit (HandlerClause x) vs d e = condition_fits x vs d e
+clause_bound_fit (RestartClause name parameters report) vs d e = parameters_fit parameters vs d e
 clause_bound_fit r vs d e = tt
 
 node_runs : (n : Now) (clause : Ast) (vs : List Value) → Place (bares n.context) → Sound n (runs n clause vs)
-node_runs n clause vs place = goes_fits n _ _ place (clause_bound_fit (row_of clause) vs (bares n.context) place.busy) (body_fits (forms_of clause))
+node_runs n clause vs place = goes_fits n _ _ place (clause_bound_fit (role_of (row_of clause)) vs (bares n.context) place.busy) (body_fits (forms_of clause))
 
 handler_runs : (n : Now) (clause : Option Ast) (vs : List Value) → Place (bares n.context) → Sound n (runs_handler n clause vs)
 handler_runs n None vs place = goes_nil n place

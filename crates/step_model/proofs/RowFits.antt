@@ -7,11 +7,10 @@ use Rattle.lisp_data.specs.declared.value.Value.TheViews.{out-Value}
 use Rattle.lisp_data.specs.declared.value.Condition.{Condition}
 use Rattle.rpc_messages.specs.declared.pattern.Pattern.TheVariants as pattern
 use Rattle.sexp_reader.specs.declared.placed.Placed.{Placed}
+use Rattle.lisp_syntax.specs.Parsing.{parsed}
 use Rattle.syntax_trees.specs.Places.{row_of}
 use Rattle.lisp_data.specs.Symbols.{value_of_symbol}
 use Rattle.syntax_trees.specs.declared.ast.Ast.{Ast}
-use Rattle.syntax_trees.specs.declared.row.Row.{Row}
-use Rattle.syntax_trees.specs.declared.row.Row.TheVariants as row
 use Rattle.term_model.specs.declared.focus.Bound.{Bound}
 use Rattle.term_model.specs.declared.focus.Focus.{Focus}
 use Rattle.term_model.specs.declared.focus.Focus.TheVariants as focus
@@ -35,6 +34,7 @@ use Rattle.step_model.specs.Decision.{decided}
 use Rattle.step_model.specs.Facts.{FocusFits, HasHandlers, IsCall, LayerFits, LayersFit, RedexStands, bare_plain, bares, names_handlers, waits}
 use Rattle.step_model.specs.Now.{Now, around}
 use Rattle.step_model.specs.Requests as requests
+use Rattle.step_model.specs.Roles.{Role, Definition, role_of}
 use Rattle.step_model.specs.Rules as rules_of
 use Rattle.step_model.specs.Rules.{Command, Finish, Rules}
 use Rattle.step_model.specs.Table as table
@@ -113,20 +113,20 @@ finished_row n place v (rules_of.Fails condition) = place
 finished_row n place v (rules_of.LeavesFrame i) =
     frame_row n place i (requests.leaves_frame v) (λ f h. call_row n place f.shown f.layer _ h (λ c. (place.layers, (c.0, call_takes_value (layer_at f.layer (There n)) c.1))))
 
-placed_found_fits : (a : Ast) (x : Row) (o : Option Origin) (k : ℕ) → FoundFits (requests.placed_found a x o k)
-placed_found_fits a (row.Defun g ps) (Some origin) k = refl
-placed_found_fits a (row.Defun g ps) None k = look_fits a
+placed_found_fits : (a : Ast) (x : Role) (o : Option Origin) (k : ℕ) → FoundFits (requests.placed_found a x o k)
+placed_found_fits a (Definition g ps) (Some origin) k = refl
+placed_found_fits a (Definition g ps) None k = look_fits a
 placed_found_fits a x o k = look_fits a
 
 before_forms_fit : (ps : List Placed) (o : Option Origin) (d : Context) → waits d ≡ false → PlainsFit (requests.before_forms ps o) d
 before_forms_fit [] o d e = tt
 before_forms_fit (p ∷ ps) o d e = (e, tt)
 
-forms_row : (rules : Rules) (n : Now) → Busy n → (fs : List Placed) (o : Option Origin) → ActFits (requests.forms_row rules n fs o) (There n)
-forms_row rules n place [] o = value_row (There n) place nil
-forms_row rules n place (p ∷ ps) o =
-    or_refuse_row (There n) place _ (requests.resolved rules n p ps o) (λ found.
-    tree_row (There n) place n (rules.tree found.1) _ (λ e. (place, before_forms_fit ps o (There n) place.busy, placed_found_fits e (row_of e) o p.at)))
+forms_row : (n : Now) → Busy n → (fs : List Placed) (o : Option Origin) → ActFits (requests.forms_row n fs o) (There n)
+forms_row n place [] o = value_row (There n) place nil
+forms_row n place (p ∷ ps) o =
+    or_refuse_row (There n) place _ (requests.resolved n p ps o) (λ found.
+    tree_row (There n) place n (parsed found.1) _ (λ e. (place, before_forms_fit ps o (There n) place.busy, placed_found_fits e (role_of (row_of e)) o p.at)))
 
 -- ---- the table
 
@@ -172,8 +172,8 @@ given_row_fits rules n (frame.Cleanup k kept ∷ c) o place = place
 given_row_fits rules n (frame.Rex i id form ∷ c) o place = place
 given_row_fits rules n (frame.Sldb m condition again ∷ c) o place = place
 
-defun_at_row : (n : Now) → Busy n → (a : Ast) (x : Row) (origin : Origin) (k : ℕ) → ActFits (table.defun_at n a x origin k) (There n)
-defun_at_row n place a (row.Defun g ps) origin k = value_row (There n) place (value_of_symbol g)
+defun_at_row : (n : Now) → Busy n → (a : Ast) (x : Role) (origin : Origin) (k : ℕ) → ActFits (table.defun_at n a x origin k) (There n)
+defun_at_row n place a (Definition g ps) origin k = value_row (There n) place (value_of_symbol g)
 defun_at_row n place a x origin k = goes_in (There n) place (look a) (look_fits a)
 
 -- every redex but a wait and a leaving stands in a busy place
@@ -190,12 +190,12 @@ busy_redex most g d e h = h
 
 busy_row : (rules : Rules) (n : Now) → Busy n → (g : Focus) → is_waiting g ≡ false → ActFits (table.row rules n g) (There n)
 busy_row rules n place (focus.Given o) e = given_row_fits rules n n.context o place
-busy_row rules n place (focus.Form p) e = form_by_row rules n place p.row p
+busy_row rules n place (focus.Form p) e = form_by_row n place p.row p
 busy_row rules n place (focus.Loop es) e = (place, (place.busy, tt), body_fits es)
 busy_row rules n place (focus.DoTimes x i count es) e = counts_row n place x i count es (out-Value count)
 busy_row rules n place (focus.DoList x i list es) e = lists_row n place x i list es (out-Value list)
-busy_row rules n place (focus.DefunAt a origin k) e = defun_at_row n place a (row_of a) origin k
-busy_row rules n place (focus.Apply g vs) e = call_row_fits rules n place g vs
+busy_row rules n place (focus.DefunAt a origin k) e = defun_at_row n place a (role_of (row_of a)) origin k
+busy_row rules n place (focus.Apply g vs) e = call_row_fits n place g vs
 busy_row rules n place (focus.Map g list next collected) e = maps_row (There n) place g list next collected
 busy_row rules n place (focus.Wait p) e = absurd (false≢true (sym e))
 busy_row rules n place (focus.Break o) e = place
@@ -205,7 +205,7 @@ busy_row rules n place (focus.SignalPast c p j) e = signals_row n place c (find_
 busy_row rules n place (focus.Enter c) e = place
 busy_row rules n place (focus.Warn c) e = prints_row (There n) place (table.warning c) nil
 busy_row rules n place focus.Rpc e = commanded_row n place (rules.command (requests.asked n))
-busy_row rules n place (focus.Forms fs origin) e = forms_row rules n place fs origin
+busy_row rules n place (focus.Forms fs origin) e = forms_row n place fs origin
 
 -- the row of a redex fits where the redex does
 pub row_fits : (rules : Rules) (n : Now) (g : Focus) → LayersFit (There n) → RedexStands n.most g (There n) → ActFits (table.row rules n g) (There n)

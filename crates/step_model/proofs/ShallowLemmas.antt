@@ -42,6 +42,7 @@ use Rattle.step_model.specs.Forms as forms
 use Rattle.step_model.specs.Kinds as kinds
 use Rattle.step_model.specs.Listed.{is_listed, is_listed_bare, is_listed_form, is_listed_marker, is_listed_named, is_listed_plain}
 use Rattle.step_model.specs.Local.{found_has_room, has_room, have_room, outcome_has_room, resumed_has_room, step_has_room}
+use Rattle.step_model.specs.OneStep.{alone}
 use Rattle.step_model.specs.Rules.{Rules}
 use Rattle.step_model.specs.Shallow.{are_shallow, has_shallow_forms, is_layer_shallow, is_redex_shallow, is_shallow, layers_left}
 use Rattle.step_model.specs.Table.{decide, given_row}
@@ -329,22 +330,22 @@ held_small k holder.DoList x p h = dolist_small k x p p.values h
 held_small k holder.Defvar x p h = tt
 held_small k holder.Defparameter x p h = tt
 
-call_small : (k : ℕ) (rules : Rules) (g : Symbol) (vs : List Value) (o : Option Value) → Small k (forms.call_row rules g vs o)
-call_small k rules g vs (Some v) = none_small k v
-call_small k rules g vs None = tt
+call_small : (k : ℕ) (g : Symbol) (vs : List Value) (o : Option Value) → Small k (forms.call_row g vs o)
+call_small k g vs (Some v) = none_small k v
+call_small k g vs None = tt
 
-named_small : (k : ℕ) (rules : Rules) (current : List ℕ) (m : Named) (g : Symbol) (p : Progress) → is_listed_named rules current m g p.values ≡ true → Small k (forms.named_row rules m g p)
-named_small k rules current named.Call g p l = call_small k rules g p.values (rules.alone g p.values)
-named_small k rules current named.Block g p l = absurd (false≢true l)
-named_small k rules current named.ReturnFrom g p l = absurd (false≢true l)
+named_small : (k : ℕ) (current : List ℕ) (m : Named) (g : Symbol) (p : Progress) → is_listed_named current m g p.values ≡ true → Small k (forms.named_row m g p)
+named_small k current named.Call g p l = call_small k g p.values (alone g p.values)
+named_small k current named.Block g p l = absurd (false≢true l)
+named_small k current named.ReturnFrom g p l = absurd (false≢true l)
 
-form_small : (k : ℕ) (rules : Rules) (current : List ℕ) (c : Context) (r : Row) (p : Progress) → is_listed_form rules current c r p ≡ true → are_shallow k p.rest ≡ true → Small k (forms.form_by rules c r p)
-form_small k rules current c (row.Bare b) p l h = bare_small k b p l h
-form_small k rules current c (row.Named m g) p l h = named_small k rules current m g p l
-form_small k rules current c (row.Held m x) p l h = held_small k m x p h
-form_small k rules current c (row.Variable x) p l h = variable_small k x (lexical x c)
-form_small k rules current c (row.Setq xs) p l h = setq_small k c xs p p.values h
-form_small k rules current c r p l h = absurd (false≢true l)
+form_small : (k : ℕ) (current : List ℕ) (c : Context) (r : Row) (p : Progress) → is_listed_form current c r p ≡ true → are_shallow k p.rest ≡ true → Small k (forms.form_by c r p)
+form_small k current c (row.Bare b) p l h = bare_small k b p l h
+form_small k current c (row.Named m g) p l h = named_small k current m g p l
+form_small k current c (row.Held m x) p l h = held_small k m x p h
+form_small k current c (row.Variable x) p l h = variable_small k x (lexical x c)
+form_small k current c (row.Setq xs) p l h = setq_small k c xs p p.values h
+form_small k current c r p l h = absurd (false≢true l)
 
 -- ---- the listed redexes have room
 
@@ -367,15 +368,15 @@ given_room k rules (frame.On p ∷ c) v l m h =
     marker_room k rules p c v l (record { many = omega (arith, m); shallow = and_right (is_layer_shallow k (frame.On p)) (list_all (is_layer_shallow k) c) h })
 given_room k rules c v l m h = absurd (false≢true l)
 
-decided_room : (k : ℕ) (rules : Rules) (current : List ℕ) (c : Context) (f : Focus) → is_listed rules current c f ≡ true → 1 ≤ k → k + 2 ≤ layers_left c f → list_all (is_layer_shallow k) c ≡ true → is_redex_shallow k f ≡ true → HasRoomFor c (decide rules c f)
+decided_room : (k : ℕ) (rules : Rules) (current : List ℕ) (c : Context) (f : Focus) → is_listed current c f ≡ true → 1 ≤ k → k + 2 ≤ layers_left c f → list_all (is_layer_shallow k) c ≡ true → is_redex_shallow k f ≡ true → HasRoomFor c (decide rules c f)
 decided_room k rules current c (focus.Given (outcome.Value v)) l q m h g = given_room k rules c v l m h
-decided_room k rules current c (focus.Form p) l q m h g = small_room k c (decide rules c (focus.Form p)) (record { many = omega (arith, q, m); shallow = h }) (form_small k rules current c p.row p l g)
+decided_room k rules current c (focus.Form p) l q m h g = small_room k c (decide rules c (focus.Form p)) (record { many = omega (arith, q, m); shallow = h }) (form_small k current c p.row p l g)
 decided_room k rules current c (focus.Loop es) l q m h g = small_room k c (decide rules c (focus.Loop es)) (record { many = omega (arith, q, m); shallow = h }) (omega arith, body_shallow k es g)
 decided_room k rules current c (focus.DoTimes x i count es) l q m h g = small_room k c (decide rules c (focus.DoTimes x i count es)) (record { many = omega (arith, q, m); shallow = h }) (counts_small k x i count es (out-Value count) g)
 decided_room k rules current c (focus.DoList x i list es) l q m h g = small_room k c (decide rules c (focus.DoList x i list es)) (record { many = omega (arith, q, m); shallow = h }) (lists_small k x i list es (out-Value list) g)
-decided_room k rules current c (focus.Apply s vs) l q m h g = small_room k c (decide rules c (focus.Apply s vs)) (record { many = omega (arith, q, m); shallow = h }) (call_small k rules s vs (rules.alone s vs))
+decided_room k rules current c (focus.Apply s vs) l q m h g = small_room k c (decide rules c (focus.Apply s vs)) (record { many = omega (arith, q, m); shallow = h }) (call_small k s vs (alone s vs))
 decided_room k rules current c f l q m h g = absurd (false≢true l)
 
-pub listed_room : (k : ℕ) (rules : Rules) (current : List ℕ) (c : Context) (f : Focus) → is_listed rules current c f ≡ true → 1 ≤ k → k + 2 ≤ layers_left c f → has_shallow_forms k c f ≡ true → step_has_room rules c f ≡ true
+pub listed_room : (k : ℕ) (rules : Rules) (current : List ℕ) (c : Context) (f : Focus) → is_listed current c f ≡ true → 1 ≤ k → k + 2 ≤ layers_left c f → has_shallow_forms k c f ≡ true → step_has_room rules c f ≡ true
 listed_room k rules current c f l q m h =
     decided_room k rules current c f l q m (and_left (list_all (is_layer_shallow k) c) (is_redex_shallow k f) h) (and_right (list_all (is_layer_shallow k) c) (is_redex_shallow k f) h)

@@ -1,4 +1,4 @@
--- What the program can do yet of the table of steps, as one record beside it. No row of the table reads it.
+-- What the program can do so far of the table of steps, as one record beside it. No row of the table reads it.
 use Rattle.std.specs.Prelude.{ℕ, Bool}
 use Rattle.lisp_data.specs.declared.sexp.Sexp.{Sexp}
 use Rattle.term_model.specs.declared.focus.Focus.{Focus}

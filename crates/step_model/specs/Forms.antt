@@ -1,5 +1,5 @@
 -- The rows of forms whose parts are evaluated, as far as the form wants them before its own step.
-use Rattle.std.specs.Prelude.{ℕ, ℤ, pos, ◌+◌, ◌-◌, ◌+ℤ◌, Bool, true, false, if◌then◌else◌, is_some, List, [], ◌∷◌, drop, Option, Some, None, Result, Ok, Err, codes, int_lt, slice_get, unwrap_or}
+use Rattle.std.specs.Prelude.{ℕ, ℤ, pos, ◌+◌, ◌-◌, ◌+ℤ◌, Bool, true, false, if◌then◌else◌, is_some, List, [], ◌∷◌, drop, map, Option, Some, None, Result, Ok, Err, codes, int_lt, slice_get, unwrap_or}
 use Rattle.std.specs.Option.{option_map_or}
 use Rattle.lisp_data.specs.declared.symbol.Symbol.{Symbol}
 use Rattle.lisp_data.specs.declared.type_id.TypeId.{TypeId}
@@ -10,8 +10,10 @@ use Rattle.lisp_data.specs.declared.value.Value.TheViews.{out-Value}
 use Rattle.lisp_data.specs.declared.value.Condition.{Condition}
 use Rattle.lisp_errors.specs.Causes.{no_block, no_catch_tag}
 use Rattle.lisp_errors.specs.declared.wanted.Wanted.TheVariants as wanted
+use Rattle.lisp_packages.specs.Making.{defined}
 use Rattle.lisp_packages.specs.Naming.{in_named}
 use Rattle.lisp_packages.specs.Packages.{name_at, place_of}
+use Rattle.lisp_packages.specs.declared.fault.NameFault.{NameFault}
 use Rattle.lisp_packages.specs.declared.lisp_package.Package.{Package}
 use Rattle.syntax_trees.specs.Places.{row_of, forms_of}
 use Rattle.lisp_data.specs.Symbols.{cl, value_of_symbol}
@@ -51,7 +53,8 @@ use Rattle.step_model.specs.Functions.{applies, gives_or, giving_nil, unbound, v
 use Rattle.step_model.specs.Image.{Function, ImageState, Place, global, is_special, with_function, with_global, with_packages, with_special}
 use Rattle.step_model.specs.Kinds.{current, gives_value, is_true, or_raise, or_refuse, symbol_of, wrong}
 use Rattle.step_model.specs.Now.{Now}
-use Rattle.step_model.specs.Rules.{Rules}
+use Rattle.step_model.specs.OneStep.{alone, formatted}
+use Rattle.step_model.specs.Roles.{Role, Form, Definition, TestClause, HandlerClause, RestartClause, role_of}
 
 -- ---- parts that several rows share
 
@@ -263,6 +266,14 @@ in_package_row n p = or_refuse (in_named n.image.packages (name_in p) (λ i. Ok 
 abbrev pub full_name : List Package → List ℕ → List ℕ
 full_name ps name = option_map_or (name_at ps) (place_of ps name) name
 
+abbrev pub names_in : Option (List Designator) → List (List ℕ)
+names_in None = []
+names_in (Some ds) = map name_in ds
+
+-- the packages with that one: where there is one of its name it is kept, with the uses and exports that it lacks
+abbrev pub with_package : List Package → Designator → Option (List Designator) → Option (List Designator) → Result (List Package) NameFault
+with_package ps d uses exports = defined ps (name_in d) (names_in uses) (names_in exports)
+
 abbrev pub defines_package : Now → List ℕ → List Package → Act
 defines_package n name ps = Changes (with_packages n.image ps) (gives_value (value.Str (full_name ps name)))
 
@@ -283,28 +294,31 @@ abbrev pub binds_handlers : Now → List Ast → Result (List HandlerFunction) V
 binds_handlers n es (Ok hs) = Goes (plain.Handlers (Functions hs) ∷ []) (body es)
 binds_handlers n es (Err bad) = wrong n bad wanted.Symbol
 
--- the restart of a clause before others: its text is its name's where no report is written. A node that is no such clause offers none
-abbrev pub offers_with : Ast → Row → List Offer → List Offer
-offers_with a (row.RestartClause name parameters report) offers = (record { name = name; text = unwrap_or report name.name; action = Run a }) ∷ offers
-offers_with a _ offers = offers
+-- the restart of a clause before others: its text is its name's where no report is written. Every other node offers none
+abbrev pub offers_with : Ast → Role → List Offer → List Offer
+offers_with a (RestartClause name parameters report) offers = (record { name = name; text = unwrap_or report name.name; action = Run a }) ∷ offers
+offers_with a (HandlerClause x) offers = offers
+offers_with a (Definition name parameters) offers = offers
+offers_with a TestClause offers = offers
+offers_with a Form offers = offers
 
 abbrev pub offers_of : List Ast → List Offer
 offers_of [] = []
-offers_of (a ∷ more) = offers_with a (row_of a) (offers_of more)
+offers_of (a ∷ more) = offers_with a (role_of (row_of a)) (offers_of more)
 
-abbrev pub simple_restart : Rules → Now → Symbol → List ℕ → List Value → List Ast → Act
-simple_restart rules n name control vs es =
-    or_raise (rules.formatted (current n) control vs) (λ text. Goes (plain.Restarts (giving_nil name text ∷ []) ∷ []) (body es))
+abbrev pub simple_restart : Now → Symbol → List ℕ → List Value → List Ast → Act
+simple_restart n name control vs es =
+    or_raise (formatted (current n) control vs) (λ text. Goes (plain.Restarts (giving_nil name text ∷ []) ∷ []) (body es))
 
 -- ---- calls
 
 -- a function that needs its arguments alone, or another
-abbrev pub call_row : Rules → Symbol → List Value → Option Value → Decision
-call_row rules g vs (Some v) = Alone (gives_value v)
-call_row rules g vs None = Beyond (λ n. applies rules n g vs)
+abbrev pub call_row : Symbol → List Value → Option Value → Decision
+call_row g vs (Some v) = Alone (gives_value v)
+call_row g vs None = Beyond (λ n. applies n g vs)
 
-abbrev pub call : Rules → Symbol → List Value → Decision
-call rules g vs = call_row rules g vs (rules.alone g vs)
+abbrev pub call : Symbol → List Value → Decision
+call g vs = call_row g vs (alone g vs)
 
 -- ---- the rows
 
@@ -329,10 +343,10 @@ bare_row bare.HandlerCase p = Alone (looks_inside (plain.Handlers (Clauses (drop
 bare_row bare.IgnoreErrors p = Alone (Goes (plain.Handlers Ignoring ∷ []) (body p.rest))
 bare_row bare.RestartCase p = Alone (looks_inside (plain.Restarts (offers_of (drop 1 p.rest))) p.rest)
 
-abbrev pub named_row : Rules → Named → Symbol → Progress → Decision
-named_row rules named.Block name p = Alone (Goes (plain.Block name ∷ []) (body p.rest))
-named_row rules named.ReturnFrom name p = returns name (first_value p.values)
-named_row rules named.Call g p = call rules g p.values
+abbrev pub named_row : Named → Symbol → Progress → Decision
+named_row named.Block name p = Alone (Goes (plain.Block name ∷ []) (body p.rest))
+named_row named.ReturnFrom name p = returns name (first_value p.values)
+named_row named.Call g p = call g p.values
 
 abbrev pub held_row : Holder → Symbol → Progress → Decision
 held_row holder.DoTimes x p = dotimes_row x p p.values
@@ -340,29 +354,29 @@ held_row holder.DoList x p = dolist_row x p p.values
 held_row holder.Defvar x p = Beyond (λ n. defvar_row x p n p.values)
 held_row holder.Defparameter x p = Beyond (λ n. defines_variable n x (first_value p.values))
 
-abbrev pub form_by : Rules → Context → Row → Progress → Decision
+abbrev pub form_by : Context → Row → Progress → Decision
 -- values are their own
-form_by rules c (row.Literal v) p = Alone (gives_value v)
-form_by rules c (row.Quote v) p = Alone (gives_value v)
-form_by rules c (row.Function s) p = Alone (gives_value (value_of_symbol s))
-form_by rules c (row.Variable x) p = variable_row x (lexical x c)
-form_by rules c (row.Bare b) p = bare_row b p
-form_by rules c (row.Named k name) p = named_row rules k name p
-form_by rules c (row.Held h x) p = held_row h x p
+form_by c (row.Literal v) p = Alone (gives_value v)
+form_by c (row.Quote v) p = Alone (gives_value v)
+form_by c (row.Function s) p = Alone (gives_value (value_of_symbol s))
+form_by c (row.Variable x) p = variable_row x (lexical x c)
+form_by c (row.Bare b) p = bare_row b p
+form_by c (row.Named k name) p = named_row k name p
+form_by c (row.Held h x) p = held_row h x p
 -- the bindings round the body
-form_by rules c (row.Let bindings) p = Beyond (λ n. Goes (all_bindings n.image bindings p.values) (body p.rest))
-form_by rules c (row.LetStar bindings) p = let_star_row p (drop (p.done - 1) bindings)
-form_by rules c (row.Setq names) p = setq_row c names p p.values
-form_by rules c (row.Defun g ps) p = Beyond (λ n. defines n g ps p.rest None)
-form_by rules c (row.HandlerBind kinds) p = Beyond (λ n. binds_handlers n p.rest (named_handlers kinds p.values))
-form_by rules c (row.WithSimpleRestart name control arguments) p = Beyond (λ n. simple_restart rules n name control p.values p.rest)
-form_by rules c (row.InPackage d) p = Beyond (λ n. in_package_row n d)
-form_by rules c (row.Defpackage d uses exports) p = Beyond (λ n. or_refuse (rules.with_package n.image.packages d uses exports) (defines_package n (name_in d)))
+form_by c (row.Let bindings) p = Beyond (λ n. Goes (all_bindings n.image bindings p.values) (body p.rest))
+form_by c (row.LetStar bindings) p = let_star_row p (drop (p.done - 1) bindings)
+form_by c (row.Setq names) p = setq_row c names p p.values
+form_by c (row.Defun g ps) p = Beyond (λ n. defines n g ps p.rest None)
+form_by c (row.HandlerBind kinds) p = Beyond (λ n. binds_handlers n p.rest (named_handlers kinds p.values))
+form_by c (row.WithSimpleRestart name control arguments) p = Beyond (λ n. simple_restart n name control p.values p.rest)
+form_by c (row.InPackage d) p = Beyond (λ n. in_package_row n d)
+form_by c (row.Defpackage d uses exports) p = Beyond (λ n. or_refuse (with_package n.image.packages d uses exports) (defines_package n (name_in d)))
 -- a clause is no form, and stands nowhere as one
-form_by rules c row.CondClause p = Alone (gives_value nil)
-form_by rules c (row.HandlerClause kind x) p = Alone (gives_value nil)
-form_by rules c (row.RestartClause name parameters report) p = Alone (gives_value nil)
+form_by c row.CondClause p = Alone (gives_value nil)
+form_by c (row.HandlerClause kind x) p = Alone (gives_value nil)
+form_by c (row.RestartClause name parameters report) p = Alone (gives_value nil)
 
 -- the row of a form
-abbrev pub form_row : Rules → Context → Progress → Decision
-form_row rules c p = form_by rules c p.row p
+abbrev pub form_row : Context → Progress → Decision
+form_row c p = form_by c p.row p

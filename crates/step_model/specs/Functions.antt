@@ -18,6 +18,7 @@ use Rattle.lisp_packages.specs.Naming.{in_named}
 use Rattle.lisp_packages.specs.Packages.{accessible, place_of}
 use Rattle.lisp_packages.specs.declared.lisp_package.Package.{Package}
 use Rattle.sexp_printer.specs.UserText.{user_text}
+use Rattle.lisp_syntax.specs.Parsing.{parsed}
 use Rattle.lisp_types.specs.Kinds.{is_kind, type_by_name}
 use Rattle.lisp_data.specs.Symbols.{cl, is_keyword, is_nil, is_of_common_lisp, names, value_of_symbol}
 use Rattle.syntax_trees.specs.declared.ast.Ast.{Ast}
@@ -41,7 +42,7 @@ use Rattle.step_model.specs.Kinds.{current, gives_value, gives_made, prints, is_
 use Rattle.step_model.specs.MachineFunctions.{machine_function, machine_name}
 use Rattle.step_model.specs.Now.{Now}
 use Rattle.step_model.specs.Perform.{continue}
-use Rattle.step_model.specs.Rules.{Rules}
+use Rattle.step_model.specs.OneStep.{formatted, is_one_step, outcome}
 
 -- ---- parts of rows
 
@@ -119,9 +120,9 @@ is_destination (Value-F.List []) = true
 is_destination (Value-F.Sym s) = names s (codes "T")
 is_destination _ = false
 
-abbrev pub formats : Rules → Now → Value → Value → List Value → Bool → Act
-formats rules n destination control vs true = with_string n control (λ text. or_raise (rules.formatted (current n) text vs) (formats_to n destination))
-formats rules n destination control vs false = wrong n destination wanted.Symbol
+abbrev pub formats : Now → Value → Value → List Value → Bool → Act
+formats n destination control vs true = with_string n control (λ text. or_raise (formatted (current n) text vs) (formats_to n destination))
+formats n destination control vs false = wrong n destination wanted.Symbol
 
 -- ---- conditions
 
@@ -143,17 +144,17 @@ names_condition s = is_of_common_lisp s && is_condition_type (type_by_name s.nam
 
 -- the condition of a datum and arguments: a control text makes one of this type, a symbol one of the type that it names, and a condition is
 -- itself (HyperSpec 9.1.2.1). The datum is looked at before the arguments
-abbrev pub datum_condition : Rules → Now → TypeId → Value → List Value → (Condition → Act) → Value-F Value Condition → Act
-datum_condition rules n kind datum vs act (Value-F.Str control) =
-    or_raise (rules.formatted (current n) control vs) (λ text. limited_condition (without_datum kind text) act)
-datum_condition rules n kind datum vs act (Value-F.Sym s) =
-    if names_condition s then made_condition n datum (rules.outcome (current n) (cl (codes "MAKE-CONDITION")) (datum ∷ vs)) act
+abbrev pub datum_condition : Now → TypeId → Value → List Value → (Condition → Act) → Value-F Value Condition → Act
+datum_condition n kind datum vs act (Value-F.Str control) =
+    or_raise (formatted (current n) control vs) (λ text. limited_condition (without_datum kind text) act)
+datum_condition n kind datum vs act (Value-F.Sym s) =
+    if names_condition s then made_condition n datum (outcome (current n) (cl (codes "MAKE-CONDITION")) (datum ∷ vs)) act
     else wrong n datum wanted.Condition
-datum_condition rules n kind datum vs act (Value-F.Cond c) = act c
-datum_condition rules n kind datum vs act _ = wrong n datum wanted.Condition
+datum_condition n kind datum vs act (Value-F.Cond c) = act c
+datum_condition n kind datum vs act _ = wrong n datum wanted.Condition
 
-abbrev pub with_datum : Rules → Now → TypeId → Value → List Value → (Condition → Act) → Act
-with_datum rules n kind datum vs act = datum_condition rules n kind datum vs act (out-Value datum)
+abbrev pub with_datum : Now → TypeId → Value → List Value → (Condition → Act) → Act
+with_datum n kind datum vs act = datum_condition n kind datum vs act (out-Value datum)
 
 -- signalling
 abbrev pub signalling : Condition → Act
@@ -195,64 +196,64 @@ is_found n name = if is_some (find_restart name n.context) then value_of_symbol 
 -- ---- the rows
 
 -- what calling a function that the machine runs is, by its arguments
-abbrev pub called : Rules → Now → MachineFunction → List Value → Act
+abbrev pub called : Now → MachineFunction → List Value → Act
 -- the call
-called rules n f.Funcall (g ∷ vs) = with_symbol n g (λ s. calls s vs)
-called rules n f.Apply (g ∷ v ∷ vs) = with_symbol n g (λ s. spread n (calls s) v vs)
+called n f.Funcall (g ∷ vs) = with_symbol n g (λ s. calls s vs)
+called n f.Apply (g ∷ v ∷ vs) = with_symbol n g (λ s. spread n (calls s) v vs)
 -- the call for the first item
-called rules n f.Mapcar (g ∷ list ∷ []) = with_symbol n g (λ s. with_list n list (λ items. maps s items 0 (Some [])))
-called rules n f.Mapc (g ∷ list ∷ []) = with_symbol n g (λ s. with_list n list (λ items. maps s items 0 None))
+called n f.Mapcar (g ∷ list ∷ []) = with_symbol n g (λ s. with_list n list (λ items. maps s items 0 (Some [])))
+called n f.Mapc (g ∷ list ∷ []) = with_symbol n g (λ s. with_list n list (λ items. maps s items 0 None))
 -- the form, without lexical variables
-called rules n f.Eval (form ∷ []) = with_tree n (rules.tree form) (λ e. Goes (plain.Eval ∷ []) (look e))
+called n f.Eval (form ∷ []) = with_tree n (parsed form) (λ e. Goes (plain.Eval ∷ []) (look e))
 -- the symbol's own, else the dynamic or global value
-called rules n f.SymbolValue (v ∷ []) = with_symbol n v (λ s. symbol_value n s (is_constant s))
-called rules n f.Set (v ∷ x ∷ []) = with_symbol n v (λ s. Sets s x (gives_value x))
-called rules n f.Boundp (v ∷ []) = with_symbol n v (λ s. gives_value (truth (is_some (value_now n s) || is_constant s)))
-called rules n f.Fboundp (v ∷ []) =
-    with_symbol n v (λ s. gives_value (truth (is_some (function n.image s) || rules.is_one_step s || is_some (machine_function s))))
+called n f.SymbolValue (v ∷ []) = with_symbol n v (λ s. symbol_value n s (is_constant s))
+called n f.Set (v ∷ x ∷ []) = with_symbol n v (λ s. Sets s x (gives_value x))
+called n f.Boundp (v ∷ []) = with_symbol n v (λ s. gives_value (truth (is_some (value_now n s) || is_constant s)))
+called n f.Fboundp (v ∷ []) =
+    with_symbol n v (λ s. gives_value (truth (is_some (function n.image s) || is_one_step s || is_some (machine_function s))))
 -- the symbol of a name in the current package, made where there is none; or looked up
-called rules n f.Intern (v ∷ []) =
+called n f.Intern (v ∷ []) =
     with_string n v (λ name. or_refuse (in_named n.image.packages (current n) (λ i. intern_at n.image.packages i name)) (named_value n))
-called rules n f.FindSymbol (v ∷ []) =
+called n f.FindSymbol (v ∷ []) =
     with_string n v (λ name. gives_value (found_value (option_and_then (λ i. accessible n.image.packages i name) (place_of n.image.packages (current n)))))
 -- changes of the current package, which give T
-called rules n f.Export (v ∷ []) =
+called n f.Export (v ∷ []) =
     with_symbol n v (λ s. or_refuse (in_named n.image.packages (current n) (λ i. export_at n.image.packages i s)) (packages_changed n))
-called rules n f.UsePackage (v ∷ []) =
+called n f.UsePackage (v ∷ []) =
     with_designated n v (λ name. or_refuse (in_named n.image.packages (current n) (λ i. in_named n.image.packages name (use_at n.image.packages i))) (packages_changed n))
 -- the text, given or written
-called rules n f.Format (destination ∷ control ∷ vs) = formats rules n destination control vs (is_destination (out-Value destination))
+called n f.Format (destination ∷ control ∷ vs) = formats n destination control vs (is_destination (out-Value destination))
 -- output, and the argument
-called rules n f.Princ (v ∷ []) = prints (user_text (current n) false v) v
-called rules n f.Prin1 (v ∷ []) = prints (user_text (current n) true v) v
-called rules n f.Print (v ∷ []) = prints (10 ∷ user_text (current n) true v ++ 32 ∷ []) v
-called rules n f.WriteString (v ∷ []) = with_string n v (λ text. prints text v)
-called rules n f.WriteLine (v ∷ []) = with_string n v (λ text. prints (text ++ 10 ∷ []) v)
-called rules n f.Terpri [] = prints (10 ∷ []) nil
+called n f.Princ (v ∷ []) = prints (user_text (current n) false v) v
+called n f.Prin1 (v ∷ []) = prints (user_text (current n) true v) v
+called n f.Print (v ∷ []) = prints (10 ∷ user_text (current n) true v ++ 32 ∷ []) v
+called n f.WriteString (v ∷ []) = with_string n v (λ text. prints text v)
+called n f.WriteLine (v ∷ []) = with_string n v (λ text. prints (text ++ 10 ∷ []) v)
+called n f.Terpri [] = prints (10 ∷ []) nil
 -- questions
-called rules n f.ReadLine [] = Asks question.String []
-called rules n f.YesOrNo [] = Asks question.YesNo []
-called rules n f.YesOrNo (control ∷ vs) = with_string n control (λ text. or_raise (rules.formatted (current n) text vs) (Asks question.YesNo))
+called n f.ReadLine [] = Asks question.String []
+called n f.YesOrNo [] = Asks question.YesNo []
+called n f.YesOrNo (control ∷ vs) = with_string n control (λ text. or_raise (formatted (current n) text vs) (Asks question.YesNo))
 -- the search for handlers
-called rules n f.Signal (datum ∷ vs) = with_datum rules n type.SimpleCondition datum vs signalling
-called rules n f.Error (datum ∷ vs) = with_datum rules n type.SimpleError datum vs Raises
-called rules n f.Cerror (control ∷ datum ∷ vs) =
-    with_string n control (λ text. or_raise (rules.formatted (current n) text vs) (λ report.
-    with_datum rules n type.SimpleError datum vs (continuable report)))
-called rules n f.Warn (datum ∷ vs) = with_datum rules n type.SimpleWarning datum vs warns
+called n f.Signal (datum ∷ vs) = with_datum n type.SimpleCondition datum vs signalling
+called n f.Error (datum ∷ vs) = with_datum n type.SimpleError datum vs Raises
+called n f.Cerror (control ∷ datum ∷ vs) =
+    with_string n control (λ text. or_raise (formatted (current n) text vs) (λ report.
+    with_datum n type.SimpleError datum vs (continuable report)))
+called n f.Warn (datum ∷ vs) = with_datum n type.SimpleWarning datum vs warns
 -- the debugger
-called rules n f.Break [] = enters_inside break_offer (without_datum type.SimpleCondition (codes "Break"))
-called rules n f.Break (datum ∷ vs) = with_datum rules n type.SimpleCondition datum vs (enters_inside break_offer)
-called rules n f.InvokeDebugger (v ∷ []) = with_condition n v (λ c. Goes [] (Here (focus.Enter c)))
+called n f.Break [] = enters_inside break_offer (without_datum type.SimpleCondition (codes "Break"))
+called n f.Break (datum ∷ vs) = with_datum n type.SimpleCondition datum vs (enters_inside break_offer)
+called n f.InvokeDebugger (v ∷ []) = with_condition n v (λ c. Goes [] (Here (focus.Enter c)))
 -- restarts
-called rules n f.InvokeRestart (v ∷ vs) = with_symbol n v (λ name. invokes n name vs (no_such_restart n name))
-called rules n f.FindRestart (v ∷ []) = with_symbol n v (λ name. gives_value (is_found n name))
-called rules n f.ComputeRestarts [] = gives_made (value.List (map (λ r. value_of_symbol r.name) (visible n.context)))
-called rules n f.Abort [] = Exits (abort_exit n.context)
-called rules n f.Continue [] = invokes n continue [] (gives_value nil)
-called rules n f.MuffleWarning [] = invokes n muffle_warning [] (no_such_restart n muffle_warning)
+called n f.InvokeRestart (v ∷ vs) = with_symbol n v (λ name. invokes n name vs (no_such_restart n name))
+called n f.FindRestart (v ∷ []) = with_symbol n v (λ name. gives_value (is_found n name))
+called n f.ComputeRestarts [] = gives_made (value.List (map (λ r. value_of_symbol r.name) (visible n.context)))
+called n f.Abort [] = Exits (abort_exit n.context)
+called n f.Continue [] = invokes n continue [] (gives_value nil)
+called n f.MuffleWarning [] = invokes n muffle_warning [] (no_such_restart n muffle_warning)
 -- any other number of arguments
-called rules n g vs = Raises (wrong_number_of_arguments (current n) (value_of_symbol (cl (machine_name g))))
+called n g vs = Raises (wrong_number_of_arguments (current n) (value_of_symbol (cl (machine_name g))))
 
 -- ---- user functions
 
@@ -293,10 +294,10 @@ abbrev pub applies_other : Now → Symbol → List Value → Option (Result Valu
 applies_other n g vs (Some outcome) = or_raise outcome gives_value
 applies_other n g vs None = calls_user n g vs (function n.image g)
 
-abbrev pub applies_by : Rules → Now → Symbol → List Value → Option MachineFunction → Act
-applies_by rules n g vs (Some m) = called rules n m vs
-applies_by rules n g vs None = applies_other n g vs (rules.outcome (current n) g vs)
+abbrev pub applies_by : Now → Symbol → List Value → Option MachineFunction → Act
+applies_by n g vs (Some m) = called n m vs
+applies_by n g vs None = applies_other n g vs (outcome (current n) g vs)
 
 -- the call of a function whose arguments are values
-abbrev pub applies : Rules → Now → Symbol → List Value → Act
-applies rules n g vs = applies_by rules n g vs (machine_function g)
+abbrev pub applies : Now → Symbol → List Value → Act
+applies n g vs = applies_by n g vs (machine_function g)

@@ -2,7 +2,9 @@ pub mod Image
 pub mod Built
 pub mod Rules
 pub mod Now
+pub mod OneStep
 pub mod CurrentPackage
+pub mod Roles
 pub mod Announcing
 pub mod Act
 pub mod Decision

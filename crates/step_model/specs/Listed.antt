@@ -1,7 +1,5 @@
 -- The redexes that a thread has to step by itself, where what its step makes has room and a request is around it.
-use Rattle.std.specs.Prelude.{◌≡◌, ℕ, ◌-◌, slice_get, Bool, true, false, ◌&&◌, is_some, List, [], ◌∷◌, Option, Some, None, Result, Ok, Err, codes}
-use Rattle.std.specs.List.{list_any}
-use Rattle.lisp_data.specs.Symbols.{names}
+use Rattle.std.specs.Prelude.{ℕ, ◌-◌, slice_get, Bool, true, false, ◌&&◌, is_some, List, [], ◌∷◌, Option, Some, None, Result, Ok, Err}
 use Rattle.lisp_data.specs.declared.symbol.Symbol.{Symbol}
 use Rattle.lisp_data.specs.declared.value.Value.{Value}
 use Rattle.lisp_data.specs.declared.value.Condition.{Condition}
@@ -23,23 +21,9 @@ use Rattle.term_model.specs.Progress.{Progress}
 use Rattle.term_model.specs.Term.{Context}
 use Rattle.term_model.specs.Variables.{lexical}
 use Rattle.step_model.specs.Kinds.{integer_of, list_of}
-use Rattle.step_model.specs.Rules.{Rules}
+use Rattle.step_model.specs.OneStep.{is_listed_function, outcome}
 
 -- ---- functions
-
--- the names of the functions that are listed
-abbrev pub listed_functions : List (List ℕ)
-listed_functions =
-    codes "+" ∷ codes "-" ∷ codes "*" ∷ codes "1+" ∷ codes "1-" ∷ codes "=" ∷ codes "<" ∷ codes ">" ∷ codes "<=" ∷ codes ">="
-    ∷ codes "NULL" ∷ codes "NOT" ∷ codes "EQ" ∷ codes "CAR" ∷ codes "CDR" ∷ []
-
--- a symbol of COMMON-LISP with one of these names
-abbrev pub is_listed_function : Symbol → Bool
-is_listed_function g = list_any (names g) listed_functions
-
--- a thread calls each of them by itself, where it raises nothing
-abbrev pub GivesAlone : Rules → Type 0
-GivesAlone rules = (current : List ℕ) (g : Symbol) (vs : List Value) (v : Value) → is_listed_function g ≡ true → rules.outcome current g vs ≡ Some (Ok v) → rules.alone g vs ≡ Some v
 
 abbrev pub is_given : Option (Result Value Condition) → Bool
 is_given (Some (Ok v)) = true
@@ -47,8 +31,8 @@ is_given (Some (Err condition)) = false
 is_given None = false
 
 -- a call of such a function that raises nothing
-abbrev pub is_listed_call : Rules → List ℕ → Symbol → List Value → Bool
-is_listed_call rules current g vs = is_listed_function g && is_given (rules.outcome current g vs)
+abbrev pub is_listed_call : List ℕ → Symbol → List Value → Bool
+is_listed_call current g vs = is_listed_function g && is_given (outcome current g vs)
 
 -- ---- forms
 
@@ -80,10 +64,10 @@ is_listed_bare bare.HandlerCase = false
 is_listed_bare bare.IgnoreErrors = false
 is_listed_bare bare.RestartCase = false
 
-abbrev pub is_listed_named : Rules → List ℕ → Named → Symbol → List Value → Bool
-is_listed_named rules current named.Call g vs = is_listed_call rules current g vs
-is_listed_named rules current named.Block name vs = false
-is_listed_named rules current named.ReturnFrom name vs = false
+abbrev pub is_listed_named : List ℕ → Named → Symbol → List Value → Bool
+is_listed_named current named.Call g vs = is_listed_call current g vs
+is_listed_named current named.Block name vs = false
+is_listed_named current named.ReturnFrom name vs = false
 
 -- a loop, whose count or list raises nothing
 abbrev pub is_listed_held : Holder → List Value → Bool
@@ -101,25 +85,25 @@ abbrev pub is_listed_setq : Context → List Symbol → Progress → List Value 
 is_listed_setq c names p [] = false
 is_listed_setq c names p (v ∷ vs) = is_lexical_in c (slice_get names (p.done - 1))
 
-abbrev pub is_listed_form : Rules → List ℕ → Context → Row → Progress → Bool
-is_listed_form rules current c (row.Bare b) p = is_listed_bare b
-is_listed_form rules current c (row.Named k g) p = is_listed_named rules current k g p.values
-is_listed_form rules current c (row.Held h x) p = is_listed_held h p.values
-is_listed_form rules current c (row.Variable x) p = is_some (lexical x c)
-is_listed_form rules current c (row.Setq names) p = is_listed_setq c names p p.values
-is_listed_form rules current c (row.Literal v) p = false
-is_listed_form rules current c (row.Quote v) p = false
-is_listed_form rules current c (row.Function s) p = false
-is_listed_form rules current c (row.Let bindings) p = false
-is_listed_form rules current c (row.LetStar bindings) p = false
-is_listed_form rules current c (row.Defun name parameters) p = false
-is_listed_form rules current c (row.HandlerBind kinds) p = false
-is_listed_form rules current c (row.WithSimpleRestart name control arguments) p = false
-is_listed_form rules current c (row.InPackage d) p = false
-is_listed_form rules current c (row.Defpackage d uses exports) p = false
-is_listed_form rules current c row.CondClause p = false
-is_listed_form rules current c (row.HandlerClause kind x) p = false
-is_listed_form rules current c (row.RestartClause name parameters report) p = false
+abbrev pub is_listed_form : List ℕ → Context → Row → Progress → Bool
+is_listed_form current c (row.Bare b) p = is_listed_bare b
+is_listed_form current c (row.Named k g) p = is_listed_named current k g p.values
+is_listed_form current c (row.Held h x) p = is_listed_held h p.values
+is_listed_form current c (row.Variable x) p = is_some (lexical x c)
+is_listed_form current c (row.Setq names) p = is_listed_setq c names p p.values
+is_listed_form current c (row.Literal v) p = false
+is_listed_form current c (row.Quote v) p = false
+is_listed_form current c (row.Function s) p = false
+is_listed_form current c (row.Let bindings) p = false
+is_listed_form current c (row.LetStar bindings) p = false
+is_listed_form current c (row.Defun name parameters) p = false
+is_listed_form current c (row.HandlerBind kinds) p = false
+is_listed_form current c (row.WithSimpleRestart name control arguments) p = false
+is_listed_form current c (row.InPackage d) p = false
+is_listed_form current c (row.Defpackage d uses exports) p = false
+is_listed_form current c row.CondClause p = false
+is_listed_form current c (row.HandlerClause kind x) p = false
+is_listed_form current c (row.RestartClause name parameters report) p = false
 
 -- ---- redexes
 
@@ -144,22 +128,22 @@ is_listed_marker (frame.On p ∷ c) = is_listed_plain p
 is_listed_marker c = false
 
 -- the listed redexes; a function is looked at in this current package
-abbrev pub is_listed : Rules → List ℕ → Context → Focus → Bool
-is_listed rules current c (focus.Given (outcome.Value v)) = is_listed_marker c
-is_listed rules current c (focus.Given (outcome.Reply r)) = false
-is_listed rules current c (focus.Form p) = is_listed_form rules current c p.row p
-is_listed rules current c (focus.Loop es) = true
-is_listed rules current c (focus.DoTimes x i count es) = is_integer count
-is_listed rules current c (focus.DoList x i list es) = is_list list
-is_listed rules current c (focus.Apply g vs) = is_listed_call rules current g vs
-is_listed rules current c (focus.DefunAt definition origin at) = false
-is_listed rules current c (focus.Map g list next collected) = false
-is_listed rules current c (focus.Wait p) = false
-is_listed rules current c (focus.Break o) = false
-is_listed rules current c focus.Abort = false
-is_listed rules current c (focus.Signal condition) = false
-is_listed rules current c (focus.SignalPast condition p j) = false
-is_listed rules current c (focus.Enter condition) = false
-is_listed rules current c (focus.Warn condition) = false
-is_listed rules current c focus.Rpc = false
-is_listed rules current c (focus.Forms forms origin) = false
+abbrev pub is_listed : List ℕ → Context → Focus → Bool
+is_listed current c (focus.Given (outcome.Value v)) = is_listed_marker c
+is_listed current c (focus.Given (outcome.Reply r)) = false
+is_listed current c (focus.Form p) = is_listed_form current c p.row p
+is_listed current c (focus.Loop es) = true
+is_listed current c (focus.DoTimes x i count es) = is_integer count
+is_listed current c (focus.DoList x i list es) = is_list list
+is_listed current c (focus.Apply g vs) = is_listed_call current g vs
+is_listed current c (focus.DefunAt definition origin at) = false
+is_listed current c (focus.Map g list next collected) = false
+is_listed current c (focus.Wait p) = false
+is_listed current c (focus.Break o) = false
+is_listed current c focus.Abort = false
+is_listed current c (focus.Signal condition) = false
+is_listed current c (focus.SignalPast condition p j) = false
+is_listed current c (focus.Enter condition) = false
+is_listed current c (focus.Warn condition) = false
+is_listed current c focus.Rpc = false
+is_listed current c (focus.Forms forms origin) = false

@@ -19,8 +19,6 @@ use Rattle.rpc_messages.specs.declared.to_emacs.Returned.TheVariants as returned
 use Rattle.rpc_messages.specs.declared.to_emacs.ToEmacs.{ToEmacs}
 use Rattle.rpc_messages.specs.declared.to_emacs.ToEmacs.TheVariants as message
 use Rattle.syntax_trees.specs.declared.ast.Ast.{Ast}
-use Rattle.syntax_trees.specs.declared.row.Row.{Row}
-use Rattle.syntax_trees.specs.declared.row.Row.TheVariants as row
 use Rattle.syntax_trees.specs.Places.{row_of, forms_of}
 use Rattle.lisp_data.specs.Symbols.{cl}
 use Rattle.term_model.specs.declared.focus.Focus.{Focus}
@@ -58,6 +56,7 @@ use Rattle.step_model.specs.Announcing.{announcement}
 use Rattle.step_model.specs.CurrentPackage.{package_variable, binds_package, bound_package}
 use Rattle.step_model.specs.Image.{with_global}
 use Rattle.step_model.specs.Now.{Now, around, puts, tells}
+use Rattle.step_model.specs.Roles.{Role, Form, Definition, TestClause, HandlerClause, RestartClause, role_of}
 use Rattle.step_model.specs.Rules.{Writing, Output, NewPackage}
 
 -- ---- going on inside a context
@@ -130,15 +129,17 @@ abbrev pub condition_bound : Option Symbol → List Value → List Plain
 condition_bound None vs = []
 condition_bound (Some x) vs = plain.Lexical x (nil_or (slice_get vs 0)) ∷ []
 
--- the bindings of a clause of `handler-case` and of one of `restart-case`; no other node is run as a clause
-abbrev pub clause_bound : Row → List Value → List Plain
-clause_bound (row.HandlerClause kind x) vs = condition_bound x vs
-clause_bound (row.RestartClause name parameters report) vs = parameters_bound parameters vs
-clause_bound _ vs = []
+-- the bindings of a clause of `handler-case` and of one of `restart-case`; every other node has none
+abbrev pub clause_bound : Role → List Value → List Plain
+clause_bound (HandlerClause x) vs = condition_bound x vs
+clause_bound (RestartClause name parameters report) vs = parameters_bound parameters vs
+clause_bound (Definition name parameters) vs = []
+clause_bound TestClause vs = []
+clause_bound Form vs = []
 
 -- the body of a clause, inside the bindings of its parameters
 abbrev pub runs : Now → Ast → List Value → Now
-runs n clause vs = goes n (clause_bound (row_of clause) vs) (body (forms_of clause))
+runs n clause vs = goes n (clause_bound (role_of (row_of clause)) vs) (body (forms_of clause))
 
 abbrev pub runs_handler : Now → Option Ast → List Value → Now
 runs_handler n None vs = goes n [] (Already nil)

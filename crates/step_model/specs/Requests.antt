@@ -7,10 +7,9 @@ use Rattle.lisp_data.specs.declared.value.Value.{Value}
 use Rattle.lisp_data.specs.declared.value.Condition.{Condition}
 use Rattle.lisp_packages.specs.Naming.{in_named, valued}
 use Rattle.lisp_packages.specs.declared.lisp_package.Package.{Package}
+use Rattle.lisp_syntax.specs.Parsing.{parsed}
 use Rattle.sexp_reader.specs.declared.placed.Placed.{Placed}
 use Rattle.syntax_trees.specs.declared.ast.Ast.{Ast}
-use Rattle.syntax_trees.specs.declared.row.Row.{Row}
-use Rattle.syntax_trees.specs.declared.row.Row.TheVariants as row
 use Rattle.syntax_trees.specs.Places.{row_of}
 use Rattle.term_model.specs.declared.focus.Bound.{Bound}
 use Rattle.term_model.specs.declared.focus.Focus.TheVariants as focus
@@ -32,7 +31,8 @@ use Rattle.step_model.specs.Functions.{exits_or, with_tree}
 use Rattle.step_model.specs.Image.{with_global, with_packages}
 use Rattle.step_model.specs.Kinds.{current, gives_value, or_raise, or_refuse}
 use Rattle.step_model.specs.Now.{Now}
-use Rattle.step_model.specs.Rules.{Rules, Asked, Command, Answers, AnswersIn, Refuses, Evaluates, EvaluatesIn, EvaluatesToReturn, CallsAgain, InvokesNth, InvokesFirst, InvokesTop, Finish, Replies, Fails, LeavesFrame}
+use Rattle.step_model.specs.Roles.{Role, Form, Definition, TestClause, HandlerClause, RestartClause, role_of}
+use Rattle.step_model.specs.Rules.{Asked, Command, Answers, AnswersIn, Refuses, Evaluates, EvaluatesIn, EvaluatesToReturn, CallsAgain, InvokesNth, InvokesFirst, InvokesTop, Finish, Replies, Fails, LeavesFrame}
 use Rattle.step_model.specs.Rules as rules
 
 -- NIL as a reply
@@ -142,9 +142,13 @@ finished n v (Fails condition) = Raises condition
 finished n v (LeavesFrame i) = with_frame n i (leaves_frame v)
 
 -- a function's definition in a compiled text has its place there
-abbrev pub placed_found : Ast → Row → Option Origin → ℕ → Found
-placed_found a (row.Defun g ps) (Some origin) at = Here (focus.DefunAt a origin at)
-placed_found a _ _ at = look a
+abbrev pub placed_found : Ast → Role → Option Origin → ℕ → Found
+placed_found a (Definition g ps) (Some origin) at = Here (focus.DefunAt a origin at)
+placed_found a (Definition g ps) None at = look a
+placed_found a (HandlerClause x) origin at = look a
+placed_found a (RestartClause name parameters report) origin at = look a
+placed_found a TestClause origin at = look a
+placed_found a Form origin at = look a
 
 -- the first of these forms stands before the others
 abbrev pub before_forms : List Placed → Option Origin → List Plain
@@ -152,13 +156,13 @@ before_forms [] origin = []
 before_forms (p ∷ ps) origin = plain.Before (focus.Forms (p ∷ ps) origin) ∷ []
 
 -- a form of a text, as it was resolved: its symbols may be new in the packages
-abbrev pub resolved : Rules → Now → Placed → List Placed → Option Origin → List Package × Value → Act
-resolved rules n p ps origin found =
+abbrev pub resolved : Now → Placed → List Placed → Option Origin → List Package × Value → Act
+resolved n p ps origin found =
     Changes (with_packages n.image found.0)
-    (with_tree n (rules.tree found.1) (λ e. Goes (before_forms ps origin) (placed_found e (row_of e) origin p.at)))
+    (with_tree n (parsed found.1) (λ e. Goes (before_forms ps origin) (placed_found e (role_of (row_of e)) origin p.at)))
 
 -- the forms of a text: the first is resolved in the current package and parsed
-abbrev pub forms_row : Rules → Now → List Placed → Option Origin → Act
-forms_row rules n [] origin = gives_value nil
-forms_row rules n (p ∷ ps) origin =
-    or_refuse (in_named n.image.packages (current n) (λ i. valued i p.form n.image.packages)) (resolved rules n p ps origin)
+abbrev pub forms_row : Now → List Placed → Option Origin → Act
+forms_row n [] origin = gives_value nil
+forms_row n (p ∷ ps) origin =
+    or_refuse (in_named n.image.packages (current n) (λ i. valued i p.form n.image.packages)) (resolved n p ps origin)

@@ -1,15 +1,11 @@
--- What the table of steps takes from the layers beside it, as one record of functions: the functions that have one step, reading and
--- formatting, and what a request's function answers. The laws hold of every such record.
+-- What the table of steps takes from the layer above, as one record of functions: what a request's function answers. The laws hold of every
+-- such record.
 use Rattle.std.specs.Prelude.{ℕ, ℤ, Bool, List, Option, Result}
 use Rattle.lisp_data.specs.declared.sexp.Sexp.{Sexp}
 use Rattle.lisp_data.specs.declared.symbol.Symbol.{Symbol}
 use Rattle.lisp_data.specs.declared.value.Value.{Value}
 use Rattle.lisp_data.specs.declared.value.Condition.{Condition}
-use Rattle.lisp_packages.specs.declared.fault.NameFault.{NameFault}
-use Rattle.lisp_packages.specs.declared.lisp_package.Package.{Package}
 use Rattle.sexp_reader.specs.declared.placed.Placed.{Placed}
-use Rattle.syntax_trees.specs.declared.ast.Ast.{Ast}
-use Rattle.syntax_trees.specs.declared.row.Designator.{Designator}
 use Rattle.term_model.specs.declared.focus.Origin.{Origin}
 use Rattle.term_model.specs.Term.{Context}
 use Rattle.step_model.specs.Built.{Built}
@@ -63,21 +59,9 @@ pub data Finish : Type 0 where
   LeavesFrame : (frame : ℤ) → Finish
 
 pub record Rules : Type 0 where
-  -- the value of a function that needs its arguments alone and whose step a thread may make by itself; None where it raises
-  pub alone : Symbol → List Value → Option Value
-  -- what a function with one step gives, with the full name of the current package; None where the symbol names none
-  pub outcome : List ℕ → Symbol → List Value → Option (Result Value Condition)
-  -- whether a symbol names a function with one step
-  pub is_one_step : Symbol → Bool
-  -- the tree of a form, or its first part that no row of the syntax fits
-  pub tree : Value → Result Ast Value
-  -- the text of a control text over arguments
-  pub formatted : List ℕ → List ℕ → List Value → Result (List ℕ) Condition
-  -- the packages after `defpackage`
-  pub with_package : List Package → Designator → Option (List Designator) → Option (List Designator) → Result (List Package) NameFault
   -- what a request's function says is to be done
   pub command : Asked → Command
   -- what it says of the value of its forms, with what was kept
   pub finish : Asked → (kept : Sexp) → Value → Finish
-  -- what of the table the program can do yet. No row reads it
+  -- what of the table the program can do so far. No row reads it
   pub built : Built

@@ -8,8 +8,6 @@ use Rattle.lisp_data.specs.declared.value.Value.TheViews.{out-Value}
 use Rattle.lisp_data.specs.declared.value.Condition.{Condition}
 use Rattle.syntax_trees.specs.Places.{row_of, forms_of}
 use Rattle.syntax_trees.specs.declared.ast.Ast.{Ast}
-use Rattle.syntax_trees.specs.declared.row.Row.{Row}
-use Rattle.syntax_trees.specs.declared.row.Row.TheVariants.{Defun}
 use Rattle.term_model.specs.declared.focus.Focus.{Focus}
 use Rattle.term_model.specs.declared.focus.Focus.TheVariants as focus
 use Rattle.term_model.specs.declared.focus.Origin.{Origin}
@@ -34,6 +32,7 @@ use Rattle.step_model.specs.Functions.{maps}
 use Rattle.step_model.specs.Kinds.{gives_made, gives_value, prints}
 use Rattle.step_model.specs.Now.{Now, around}
 use Rattle.step_model.specs.Requests.{asked, commanded, finished, forms_row}
+use Rattle.step_model.specs.Roles.{Role, Form, Definition, TestClause, HandlerClause, RestartClause, role_of}
 use Rattle.step_model.specs.Rules.{Rules}
 
 -- ---- parts of rows
@@ -93,9 +92,13 @@ given_row rules (frame.Rex at id form ∷ c) o = Beyond (λ n. Passes)
 given_row rules (frame.Sldb level condition again ∷ c) o = Beyond (λ n. Passes)
 given_row rules [] o = Beyond (λ n. Passes)
 
-abbrev pub defun_at : Now → Ast → Row → Origin → ℕ → Act
-defun_at n a (Defun g ps) origin at = defines n g ps (forms_of a) (Some (record { buffer = origin.buffer; position = origin.position; offset = at }))
-defun_at n a _ origin at = Goes [] (look a)
+-- a node with a place: only a function's definition keeps it
+abbrev pub defun_at : Now → Ast → Role → Origin → ℕ → Act
+defun_at n a (Definition g ps) origin at = defines n g ps (forms_of a) (Some (record { buffer = origin.buffer; position = origin.position; offset = at }))
+defun_at n a (HandlerClause x) origin at = Goes [] (look a)
+defun_at n a (RestartClause name parameters report) origin at = Goes [] (look a)
+defun_at n a TestClause origin at = Goes [] (look a)
+defun_at n a Form origin at = Goes [] (look a)
 
 -- ---- the table
 
@@ -103,15 +106,15 @@ abbrev pub decide : Rules → Context → Focus → Decision
 -- a marker with an outcome
 decide rules c (focus.Given o) = given_row rules c o
 -- a form whose parts are evaluated
-decide rules c (focus.Form p) = form_row rules c p
+decide rules c (focus.Form p) = form_row c p
 -- a turn of a loop
 decide rules c (focus.Loop es) = Alone (loops es)
 decide rules c (focus.DoTimes x i count es) = counts x i count es
 decide rules c (focus.DoList x i list es) = lists x i list es
 -- a function with its place
-decide rules c (focus.DefunAt a origin at) = Beyond (λ n. defun_at n a (row_of a) origin at)
+decide rules c (focus.DefunAt a origin at) = Beyond (λ n. defun_at n a (role_of (row_of a)) origin at)
 -- calls
-decide rules c (focus.Apply g vs) = call rules g vs
+decide rules c (focus.Apply g vs) = call g vs
 decide rules c (focus.Map g list next collected) = Beyond (λ n. maps g list next collected)
 -- a message
 decide rules c (focus.Wait p) = Beyond (λ n. Takes p)
@@ -124,10 +127,10 @@ decide rules c (focus.Enter condition) = Beyond (λ n. Opens condition)
 decide rules c (focus.Warn condition) = Beyond (λ n. prints (warning condition) nil)
 -- requests
 decide rules c focus.Rpc = Beyond (λ n. commanded n (rules.command (asked n)))
-decide rules c (focus.Forms forms origin) = Beyond (λ n. forms_row rules n forms origin)
+decide rules c (focus.Forms forms origin) = Beyond (λ n. forms_row n forms origin)
 
 -- the row of a redex
-abbrev pub row : Rules → Now → Focus → Act
+abbrev pub row : Now → Focus → Act
 row rules n f = decided n (decide rules n.context f)
 
 -- the same, where the thread's term alone decides it

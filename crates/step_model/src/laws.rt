@@ -20,7 +20,7 @@ ghost use Rattle.step_model.specs.declared.machine_function.MachineFunction.{Mac
 ghost use Rattle.step_model.specs.AsBuilt.{all_built, is_built, leaving, limited, step_as_built};
 ghost use Rattle.step_model.specs.Built.{Built};
 ghost use Rattle.step_model.specs.Facts.{IsSound, bares, names_handlers};
-ghost use Rattle.step_model.specs.Listed.{GivesAlone, is_listed};
+ghost use Rattle.step_model.specs.Listed.{is_listed};
 ghost use Rattle.step_model.specs.Local.{Spot, is_inside, is_local, step_alone, step_has_room};
 ghost use Rattle.step_model.specs.MachineFunctions.{machine_function, machine_name};
 ghost use Rattle.step_model.specs.Marks.{marks, state_of};
@@ -79,8 +79,8 @@ pub fn a_break_keeps_the_facts()
 /// a form has more than 1,990 forms inside one another.
 pub fn a_local_step_needs_the_term_alone()
     ensures step { (rules : Rules) (n : Now) (s : Spot) → step_alone rules n.context n.redex ≡ Some s → step rules n ≡ puts (begun n) s.0 s.1 }
-    ensures listed { (rules : Rules) (current : List ℕ) (c : Context) (f : Focus) → GivesAlone rules → is_listed rules current c f ≡ true → is_inside c f ≡ true → step_has_room rules c f ≡ true → is_local rules c f ≡ true }
-    ensures room { (rules : Rules) (current : List ℕ) (c : Context) (f : Focus) → is_listed rules current c f ≡ true → 2000 ≤ layers_left c f → has_shallow_forms 1990 c f ≡ true → step_has_room rules c f ≡ true }
+    ensures listed { (rules : Rules) (current : List ℕ) (c : Context) (f : Focus) → is_listed current c f ≡ true → is_inside c f ≡ true → step_has_room rules c f ≡ true → is_local rules c f ≡ true }
+    ensures room { (rules : Rules) (current : List ℕ) (c : Context) (f : Focus) → is_listed current c f ≡ true → 2000 ≤ layers_left c f → has_shallow_forms 1990 c f ≡ true → step_has_room rules c f ≡ true }
 {}
 
 /// Invoking a restart of a level that isn't the current one, or one that the level doesn't have, answers NIL and does nothing else. The

@@ -7,6 +7,6 @@ use Rattle.step_model.proofs.laws.a_local_step_needs_the_term_alone.Goals as goa
 abbrev pub returns : goal.returns
 returns c = record {
   step = λ rules n s h. local_step rules n s h;
-  listed = λ rules current d f gives h i r. listed_local rules current d f gives h i r;
+  listed = λ rules current d f h i r. listed_local rules current d f h i r;
   room = λ rules current d f h left shallow. listed_room 1990 rules current d f h (omega arith) (omega (arith, left)) shallow;
 }
