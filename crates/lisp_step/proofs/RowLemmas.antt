@@ -42,13 +42,14 @@ use Rattle.term_model.specs.declared.focus.Focus.TheVariants as focus
 use Rattle.term_model.specs.declared.focus.Origin.{Origin}
 use Rattle.term_model.specs.declared.found.Found.TheVariants.{Already, Here}
 use Rattle.term_model.specs.declared.frame.Frame.TheVariants as frame
+use Rattle.term_model.specs.declared.kept.Leaving.{Leaving}
 use Rattle.term_model.specs.declared.kept.Outcome.{Outcome}
 use Rattle.term_model.specs.declared.kept.Outcome.TheVariants as outcome
 use Rattle.term_model.specs.declared.plain.Plain.{Plain}
 use Rattle.term_model.specs.declared.plain.Plain.TheVariants as plain
 use Rattle.lisp_data.specs.Parts.{nil}
 use Rattle.term_model.specs.Label.{messages_in}
-use Rattle.term_model.specs.Restarts.{Leaving, abort_exit}
+use Rattle.term_model.specs.Restarts.{abort_exit}
 use Rattle.term_model.specs.Room.{levels}
 use Rattle.term_model.specs.Term.{Context}
 use Rattle.lisp_step.specs.Machine.{now_of, stack_of}

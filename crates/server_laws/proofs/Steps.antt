@@ -19,19 +19,22 @@ use Rattle.lisp_syntax.specs.Parsing.{parsed}
 use Rattle.syntax_trees.specs.declared.ast.Ast.{Ast}
 use Rattle.syntax_trees.specs.Places.{row_of}
 use Rattle.term_model.proofs.Messages.{messages_in-append}
+use Rattle.term_model.specs.declared.end.End.{End}
+use Rattle.term_model.specs.declared.end.End.TheVariants as end
 use Rattle.term_model.specs.declared.focus.Focus.{Focus}
 use Rattle.term_model.specs.declared.focus.Focus.TheVariants as focus
 use Rattle.term_model.specs.declared.focus.Origin.{Origin}
 use Rattle.term_model.specs.declared.found.Found.{Found}
 use Rattle.term_model.specs.declared.found.Found.TheVariants.{Already, Here, Inside}
 use Rattle.term_model.specs.declared.frame.Frame.TheVariants as frame
+use Rattle.term_model.specs.declared.kept.Leaving.{Leaving}
 use Rattle.term_model.specs.declared.kept.Outcome.{Outcome}
 use Rattle.term_model.specs.declared.kept.Outcome.TheVariants as outcome
 use Rattle.term_model.specs.declared.plain.Plain.{Plain}
 use Rattle.term_model.specs.declared.plain.Plain.TheVariants as plain
 use Rattle.term_model.specs.GoingIn.{resumed}
 use Rattle.term_model.specs.Label.{Label, messages_in}
-use Rattle.term_model.specs.Restarts.{Leaving, nothing_at}
+use Rattle.term_model.specs.Restarts.{nothing_at}
 use Rattle.term_model.specs.Room.{is_within}
 use Rattle.term_model.specs.Term.{Context}
 use Rattle.step_model.specs.Act as act
@@ -41,7 +44,7 @@ use Rattle.step_model.specs.Decision.{decided}
 use Rattle.step_model.specs.Functions.{with_tree}
 use Rattle.step_model.specs.Kinds.{current, or_refuse}
 use Rattle.step_model.specs.Now.{Mailbox, Now, around, puts, tells}
-use Rattle.step_model.specs.Perform.{answer_in, exits, given, gives, gives_in, goes, lays, outcome_of, outward, package_bound, passes, perform, takes, takes_mail, took, written}
+use Rattle.step_model.specs.Perform.{answer_in, carried, exits, given, gives, gives_in, goes, lays, outward, package_bound, passes, perform, takes, takes_mail, took, written}
 use Rattle.step_model.specs.Requests.{asked, before_forms, commanded, finished, forms_row, placed_found, resolved}
 use Rattle.step_model.specs.Roles.{role_of}
 use Rattle.step_model.specs.Rules.{Writing, Output, NewPackage}
@@ -94,13 +97,17 @@ module _ (Small : Type 0) where
 
   -- ---- acts
 
+  abbrev pub EndFits : End → Type 0
+  EndFits (end.Goes ps found) = PlainsFit ps × IsSimpleFound found
+  EndFits (end.Gives o) = OutcomeFits o
+  EndFits (end.Resumes f) = RedexFits f
+  EndFits (end.Passes o) = OutcomeFits o
+  EndFits (end.Exits x) = x ≡ nothing_at 0
+  EndFits (end.Takes p) = Unit {0}
+  EndFits _ = ⊥
+
   abbrev pub ActFits : Act → Type 0
-  ActFits (act.Goes ps found) = PlainsFit ps × IsSimpleFound found
-  ActFits (act.Gives o) = OutcomeFits o
-  ActFits (act.Resumes f) = RedexFits f
-  ActFits act.Passes = Unit {0}
-  ActFits (act.Exits x) = x ≡ nothing_at 0
-  ActFits (act.Takes p) = Unit {0}
+  ActFits (act.Ends e) = EndFits e
   ActFits (act.Outward a) = ActFits a
   ActFits (act.Writes ws a) = AreShortWritings ws × ActFits a
   ActFits (act.Changes image a) = HasShortNames image × ActFits a
@@ -145,10 +152,6 @@ module _ (Small : Type 0) where
   goes_fits n [] (Here f) h g k = lays_fits n [] (Here f) h g k
   goes_fits n [] (Inside p e) h g k = lays_fits n [] (Inside p e) h g k
   goes_fits n (p ∷ ps) found h g k = lays_fits n (p ∷ ps) found h g k
-
-  outcome_fits : (f : Focus) → RedexFits f → OutcomeFits (outcome_of f)
-  outcome_fits (focus.Given o) h = h
-  outcome_fits f h = tt
 
   passes_fits : (n : Now) (c : Context) (o : Outcome) → Fits n → LayersFit Small c → OutcomeFits o → Fits (passes n c o)
   passes_fits n [] o h g k = put_fits n [] (focus.Given o) h g k
@@ -241,13 +244,22 @@ module _ (Small : Type 0) where
   writings_fit (Output text repl_result ∷ ws) h = λ s. (text_fits text repl_result h.0, writings_fit ws h.1 s)
   writings_fit (NewPackage name prompt ∷ ws) h = λ s. (package_fits name prompt h.0.0 h.0.1, writings_fit ws h.1 s)
 
+  end_fits : (n : Now) (e : End) → EndFits e → Fits n → Fits (carried n e)
+  end_fits n (end.Goes ps found) g h = goes_fits n ps found h g.0 g.1
+  end_fits n (end.Gives o) g h = gives_fits n o h g
+  end_fits n (end.Resumes f) g h = put_fits n n.context f h h.layers g
+  end_fits n (end.Passes o) g h = passes_fits n n.context o h h.layers g
+  end_fits n (end.Exits x) g h = exits_fit n x g h
+  end_fits n (end.Takes p) g h = takes_fits n p (first_accepted p n.mailbox) h (first_fits p n.mailbox h.mail)
+  end_fits n (end.Raises condition) g h = absurd g
+  end_fits n (end.Protects a cleanup) g h = absurd g
+  end_fits n (end.Asks kind text) g h = absurd g
+  end_fits n (end.Opens condition) g h = absurd g
+  end_fits n (end.Breaks o) g h = absurd g
+  end_fits n end.Closes g h = absurd g
+
   perform_fits : (n : Now) (a : Act) → ActFits a → Fits n → Fits (perform n a)
-  perform_fits n (act.Goes ps found) g h = goes_fits n ps found h g.0 g.1
-  perform_fits n (act.Gives o) g h = gives_fits n o h g
-  perform_fits n (act.Resumes f) g h = put_fits n n.context f h h.layers g
-  perform_fits n act.Passes g h = passes_fits n n.context (outcome_of n.redex) h h.layers (outcome_fits n.redex h.redex)
-  perform_fits n (act.Exits x) g h = exits_fit n x g h
-  perform_fits n (act.Takes p) g h = takes_fits n p (first_accepted p n.mailbox) h (first_fits p n.mailbox h.mail)
+  perform_fits n (act.Ends e) g h = end_fits n e g h
   perform_fits n (act.Outward a) g h = perform_fits (around n (outward n.context)) a g (around_fits n (outward n.context) h (outward_fits n.context h.layers))
   perform_fits n (act.Writes ws a) g h =
       perform_fits (tells n (map written ws)) a g.1
@@ -256,12 +268,6 @@ module _ (Small : Type 0) where
       perform_fits (record n { image = image }) a g.1 (record { names = g.0; closed = h.closed; layers = h.layers; redex = h.redex; mail = h.mail; labels = h.labels })
   perform_fits n (act.Inspects vs a) g h =
       perform_fits (record n { inspected = vs }) a g (record { names = h.names; closed = h.closed; layers = h.layers; redex = h.redex; mail = h.mail; labels = h.labels })
-  perform_fits n (act.Raises condition) g h = absurd g
-  perform_fits n (act.Protects a cleanup) g h = absurd g
-  perform_fits n (act.Asks kind text) g h = absurd g
-  perform_fits n (act.Opens condition) g h = absurd g
-  perform_fits n (act.Breaks o) g h = absurd g
-  perform_fits n act.Closes g h = absurd g
   perform_fits n (act.Assigns x v a) g h = absurd g
   perform_fits n (act.Sets x v a) g h = absurd g
 
@@ -306,7 +312,7 @@ module _ (Small : Type 0) where
   outcome_row n (frame.On (plain.Answer kept) ∷ c) (outcome.Value v) h g k e r =
       let a = asked (around n c) in finished_fits (around n c) v (ended a.form kept v a.current a.image) (ended_short a.form kept v a.current a.image h) r
   outcome_row n (frame.On p ∷ c) o h g k e r = k
-  outcome_row n (frame.Rex i id form ∷ c) o h g k e r = tt
+  outcome_row n (frame.Rex i id form ∷ c) o h g k e r = k
   outcome_row n (frame.Protect j cleanup ∷ c) o h g k e r = absurd (false≢true e)
   outcome_row n (frame.Cleanup j kept ∷ c) o h g k e r = absurd (false≢true e)
   outcome_row n (frame.Sldb j condition again ∷ c) o h g k e r = absurd (false≢true e)

@@ -9,36 +9,44 @@ use Rattle.mailboxes.specs.Mail.{first_accepted}
 use Rattle.rpc_messages.specs.declared.from_emacs.FromEmacs.{FromEmacs}
 use Rattle.rpc_messages.specs.declared.from_emacs.FromEmacs.TheVariants as mail
 use Rattle.rpc_messages.specs.declared.pattern.Pattern.{Pattern}
+use Rattle.term_model.specs.declared.end.End.{End}
+use Rattle.term_model.specs.declared.end.End.TheVariants as end
 use Rattle.term_model.specs.declared.focus.Focus.TheVariants as focus
 use Rattle.term_model.specs.declared.found.Found.{Found}
 use Rattle.term_model.specs.declared.found.Found.TheVariants.{Already, Here, Inside}
 use Rattle.term_model.specs.declared.frame.Frame.TheVariants as frame
+use Rattle.term_model.specs.declared.kept.Leaving.{Leaving}
 use Rattle.term_model.specs.declared.kept.Outcome.{Outcome}
 use Rattle.term_model.specs.declared.kept.Outcome.TheVariants as outcome
 use Rattle.term_model.specs.declared.plain.Plain.{Plain}
 use Rattle.term_model.specs.GoingIn.{resumed}
-use Rattle.term_model.specs.Restarts.{Leaving, nothing_at}
+use Rattle.term_model.specs.Restarts.{nothing_at}
 use Rattle.term_model.specs.Room.{is_within}
 use Rattle.term_model.specs.Term.{Context}
 use Rattle.step_model.specs.Act as act
 use Rattle.step_model.specs.Act.{Act}
 use Rattle.step_model.specs.CurrentPackage.{binds_package, bound_package}
 use Rattle.step_model.specs.Now.{Now, around, tells}
-use Rattle.step_model.specs.Perform.{answer_in, begins, exits, given, gives, gives_in, goes, lays, outcome_of, outward, package_bound, passes, perform, takes, takes_mail, took}
+use Rattle.step_model.specs.Perform.{answer_in, begins, carried, exits, given, gives, gives_in, goes, lays, outward, package_bound, passes, perform, takes, takes_mail, took}
 use Rattle.server_rules.specs.Beside.{beside}
 use Rattle.server_rules.specs.Going.{entered, laid_in}
 use Rattle.server_rules.specs.Simple.{are_simple}
 use Rattle.server_rules.proofs.GoingSimple.{ArePlain, IsSimpleFound, entered_simple, lays-simple, resumed_simple}
 use Rattle.server_rules.proofs.SimpleLemmas.{exits_to_top, simple_rest}
 
+-- ends that make no layers but simple ones
+abbrev pub IsSimpleEnd : End → Type 0
+IsSimpleEnd (end.Goes ps found) = ArePlain ps × IsSimpleFound found
+IsSimpleEnd (end.Gives o) = Unit {0}
+IsSimpleEnd (end.Resumes f) = Unit {0}
+IsSimpleEnd (end.Passes o) = Unit {0}
+IsSimpleEnd (end.Exits x) = x ≡ nothing_at 0
+IsSimpleEnd (end.Takes p) = Unit {0}
+IsSimpleEnd _ = ⊥
+
 -- acts that make no layers but simple ones, with what is inspected kept as it is
 abbrev pub IsSimpleAct : List Value → Act → Type 0
-IsSimpleAct vs (act.Goes ps found) = ArePlain ps × IsSimpleFound found
-IsSimpleAct vs (act.Gives o) = Unit {0}
-IsSimpleAct vs (act.Resumes f) = Unit {0}
-IsSimpleAct vs act.Passes = Unit {0}
-IsSimpleAct vs (act.Exits x) = x ≡ nothing_at 0
-IsSimpleAct vs (act.Takes p) = Unit {0}
+IsSimpleAct vs (act.Ends e) = IsSimpleEnd e
 IsSimpleAct vs (act.Outward a) = IsSimpleAct vs a
 IsSimpleAct vs (act.Writes ws a) = IsSimpleAct vs a
 IsSimpleAct vs (act.Changes image a) = IsSimpleAct vs a
@@ -126,13 +134,22 @@ outward_simple (frame.Cleanup k kept ∷ c) e = e
 outward_simple (frame.Sldb k condition again ∷ c) e = e
 outward_simple (frame.Ask kind tag ∷ c) e = absurd (false≢true e)
 
+end_keeps : (n : Now) → n.most ≡ 0 → (a : End) → IsSimpleEnd a → are_simple n.context ≡ true → Keeps n (carried n a)
+end_keeps n z (end.Goes ps found) h e = goes_keeps n z ps found e h.0 h.1
+end_keeps n z (end.Gives o) h e = gives_keeps n z o e
+end_keeps n z (end.Resumes f) h e = record { simple = e; beside = refl }
+end_keeps n z (end.Passes o) h e = passes_keeps n n.context o e
+end_keeps n z (end.Exits x) h e = exits_keeps n x h e
+end_keeps n z (end.Takes p) h e = takes_keeps n z p (first_accepted p n.mailbox) e
+end_keeps n z (end.Raises condition) h e = absurd h
+end_keeps n z (end.Protects a cleanup) h e = absurd h
+end_keeps n z (end.Asks kind text) h e = absurd h
+end_keeps n z (end.Opens condition) h e = absurd h
+end_keeps n z (end.Breaks o) h e = absurd h
+end_keeps n z end.Closes h e = absurd h
+
 pub perform_keeps : (n : Now) → n.most ≡ 0 → (a : Act) → IsSimpleAct n.inspected a → are_simple n.context ≡ true → Keeps n (perform n a)
-perform_keeps n z (act.Goes ps found) h e = goes_keeps n z ps found e h.0 h.1
-perform_keeps n z (act.Gives o) h e = gives_keeps n z o e
-perform_keeps n z (act.Resumes f) h e = record { simple = e; beside = refl }
-perform_keeps n z act.Passes h e = passes_keeps n n.context (outcome_of n.redex) e
-perform_keeps n z (act.Exits x) h e = exits_keeps n x h e
-perform_keeps n z (act.Takes p) h e = takes_keeps n z p (first_accepted p n.mailbox) e
+perform_keeps n z (act.Ends a) h e = end_keeps n z a h e
 perform_keeps n z (act.Outward a) h e =
     let k = perform_keeps (around n (outward n.context)) z a h (outward_simple n.context e) in record { simple = k.simple; beside = k.beside }
 perform_keeps n z (act.Writes ws a) h e = let k = perform_keeps (tells n _) z a h e in record { simple = k.simple; beside = k.beside }
@@ -140,11 +157,5 @@ perform_keeps n z (act.Changes image a) h e = let k = perform_keeps (record n { 
 perform_keeps n z (act.Inspects ws a) h e =
     let k = perform_keeps (record n { inspected = ws }) z a (subst (λ vs. IsSimpleAct vs a) (sym h.0) h.1) e in
     record { simple = k.simple; beside = k.beside ∙ ap (λ vs. beside (record n { inspected = vs })) h.0 }
-perform_keeps n z (act.Raises condition) h e = absurd h
-perform_keeps n z (act.Protects a cleanup) h e = absurd h
-perform_keeps n z (act.Asks kind text) h e = absurd h
-perform_keeps n z (act.Opens condition) h e = absurd h
-perform_keeps n z (act.Breaks o) h e = absurd h
-perform_keeps n z act.Closes h e = absurd h
 perform_keeps n z (act.Assigns x v a) h e = absurd h
 perform_keeps n z (act.Sets x v a) h e = absurd h

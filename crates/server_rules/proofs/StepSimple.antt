@@ -14,10 +14,10 @@ use Rattle.term_model.specs.declared.focus.Focus.{Focus}
 use Rattle.term_model.specs.declared.focus.Focus.TheVariants as focus
 use Rattle.term_model.specs.declared.focus.Origin.{Origin}
 use Rattle.term_model.specs.declared.frame.Frame.TheVariants as frame
+use Rattle.term_model.specs.declared.kept.Leaving.{Leaving}
 use Rattle.term_model.specs.declared.kept.Outcome.{Outcome}
 use Rattle.term_model.specs.declared.kept.Outcome.TheVariants as outcome
 use Rattle.term_model.specs.declared.plain.Plain.TheVariants as plain
-use Rattle.term_model.specs.Restarts.{Leaving, abort_exit}
 use Rattle.term_model.specs.Term.{Context}
 use Rattle.step_model.specs.Act.{Act, Goes}
 use Rattle.step_model.specs.Decision.{decided}
@@ -27,7 +27,7 @@ use Rattle.step_model.specs.Now.{Now, around}
 use Rattle.step_model.specs.Perform.{exits, perform}
 use Rattle.step_model.specs.Roles.{Role, Definition, role_of}
 use Rattle.step_model.specs.Requests.{asked, before_forms, commanded, finished, forms_row, placed_found, resolved}
-use Rattle.step_model.specs.AsBuilt.{act_if, is_act_built, is_built, is_raise, is_row_built, leaving, limited, step_as_built, step_or_leave}
+use Rattle.step_model.specs.AsBuilt.{act_if, is_built, is_raise, is_row_built, leaving, limited, step_as_built, step_or_leave}
 use Rattle.step_model.specs.Step.{begun}
 use Rattle.step_model.specs.Table.{given_row, row}
 use Rattle.swank_rpc.specs.Commands.{Given, Replies, RepliesIn, Refuses, Evaluates, called, command_of}

@@ -1,5 +1,5 @@
 -- Only a step on a reply ends a request with a reply, and with that one.
-use Rattle.std.proofs.Common.{◌≡◌, ℕ, zero, suc, ◌+◌, Bool, true, false, List, [], ◌∷◌, ◌++◌, map, Option, Some, None, refl, sym, ap, ◌∙◌}
+use Rattle.std.proofs.Common.{◌≡◌, ℕ, zero, suc, ◌+◌, Bool, true, false, List, [], ◌∷◌, ◌++◌, map, Option, Some, None}
 use Rattle.std.specs.Prelude.{slice_get}
 use Rattle.lisp_data.specs.declared.sexp.Sexp.TheViews.{out-Sexp}
 use Rattle.lisp_data.specs.declared.symbol.Symbol.{Symbol}
@@ -12,6 +12,8 @@ use Rattle.rpc_messages.specs.declared.from_emacs.FromEmacs.TheVariants as mail
 use Rattle.rpc_messages.specs.declared.pattern.Pattern.{Pattern}
 use Rattle.rpc_messages.specs.declared.pattern.Pattern.TheVariants as pattern
 use Rattle.syntax_trees.specs.declared.ast.Ast.{Ast}
+use Rattle.term_model.specs.declared.end.End.{End}
+use Rattle.term_model.specs.declared.end.End.TheVariants as end
 use Rattle.term_model.specs.declared.focus.Focus.{Focus}
 use Rattle.term_model.specs.declared.focus.Focus.TheVariants as focus
 use Rattle.term_model.specs.declared.found.Found.{Found}
@@ -31,7 +33,6 @@ use Rattle.term_model.specs.declared.question.Ask.{Ask}
 use Rattle.term_model.specs.declared.question.Ask.TheVariants as question
 use Rattle.rpc_messages.specs.declared.to_emacs.Returned.TheVariants as returned
 use Rattle.rpc_messages.specs.declared.to_emacs.ToEmacs.TheVariants as message
-use Rattle.lisp_data.specs.declared.sexp.Sexp.{Sexp}
 use Rattle.lisp_errors.specs.Causes.{stack_exhausted}
 use Rattle.step_model.specs.Announcing.{announcement}
 use Rattle.session_laws.specs.EndsWithItsReply.{EndsOnly, EndsWithItsReply}
@@ -51,10 +52,14 @@ use Rattle.term_model.specs.Variables.{with_dynamic, with_lexical}
 use Rattle.step_model.specs.Act as act
 use Rattle.step_model.specs.Act.{Act}
 use Rattle.step_model.specs.CurrentPackage.{binds_package, bound_package}
+use Rattle.step_model.specs.Facts.{bares}
 use Rattle.step_model.specs.Now.{Now, around, tells}
-use Rattle.step_model.specs.Perform.{outcome_of, asking, continuing, interrupted, opens, after_leaving, answer_in, asks, assigns, assigns_or, breaks_if, brings, calls_again, cut_off, enters_if, exhausted_if, exits, finishes, given, gives, gives_in, goes, laid, lands, lays, lays_if, outward, package_bound, passes, perform, protects, protects_value, runs_action, runs_clause, runs_handler, runs_offer, sets, sets_or, takes, took, turned, written}
+use Rattle.step_model.specs.Perform.{carried, asking, continuing, interrupted, opens, after_leaving, answer_in, asks, assigns, assigns_or, breaks_if, brings, calls_again, cut_off, enters_if, exhausted_if, exits, finishes, given, gives, gives_in, goes, laid, lands, lays, lays_if, outward, package_bound, passes, perform, protects, protects_value, runs_action, runs_clause, runs_handler, runs_offer, sets, sets_or, takes, took, turned, written}
 use Rattle.step_model.specs.Rules.{Rules, Writing, Output, NewPackage}
 use Rattle.step_model.proofs.AsBuiltLemmas.{either_way}
+use Rattle.step_model.proofs.PerformFits.{ActFits, EndFits, Wanted}
+use Rattle.step_model.proofs.RowFits.{row_wanted}
+use Rattle.step_model.proofs.TargetFits.{abort_fits}
 use Rattle.step_model.specs.AsBuilt.{leaving, limited}
 use Rattle.step_model.specs.Step as the_step
 use Rattle.step_model.specs.Table.{row}
@@ -101,18 +106,6 @@ written_says : (g : Focus) (ws : List Writing) → EndsOnly g (map written ws)
 written_says g [] = tt
 written_says g (Output text repl_result ∷ ws) = written_says g ws
 written_says g (NewPackage name prompt ∷ ws) = written_says g ws
-
-abbrev is_reply : Outcome → Bool
-is_reply (outcome.Reply r) = true
-is_reply (outcome.Value v) = false
-
-no_reply : (v : Value) (r : Sexp) → outcome.Value v ≡ outcome.Reply r → ⊥
-no_reply v r e = let f : false ≡ true = ap is_reply e in absurd (cc)
-
--- a redex whose outcome is a reply is that reply
-reply_redex : (g : Focus) (r : Sexp) → outcome_of g ≡ outcome.Reply r → g ≡ focus.Given (outcome.Reply r)
-reply_redex (focus.Given o) r e = ap focus.Given e
-reply_redex g r e = absurd (no_reply nil r e)
 
 opens_says : (g : Focus) (n : Now) (condition : Condition) → Says g n → Says g (opens n condition)
 opens_says g n condition h = more g n.labels (Opened n.thread (levels n.context + 1) ∷ announcement n (levels n.context + 1) condition n.context) h tt
@@ -202,13 +195,13 @@ finishes_says : (g : Focus) (n : Now) (kept : Saved) → Says g n → Says g (fi
 finishes_says g n (saved.Kept o) h = gives_says g n o h
 finishes_says g n (saved.Exit target b) h = exits_says g n target b h
 
-passes_says : (g : Focus) (n : Now) (c : Context) (o : Outcome) → outcome_of g ≡ o → Says g n → Says g (passes n c o)
+passes_says : (g : Focus) (n : Now) (c : Context) (o : Outcome) → g ≡ focus.Given o → Says g n → Says g (passes n c o)
 passes_says g n [] o e h = h
 passes_says g n (frame.On p ∷ c) o e h = h
 passes_says g n (frame.Protect k cleanup ∷ c) o e h = goes_says g (turned n k o c) [] (body cleanup) (more g n.labels (Cleanup n.thread k ∷ []) h tt)
 passes_says g n (frame.Cleanup k kept ∷ c) o e h = finishes_says g (around n c) kept h
 passes_says g n (frame.Rex i id form ∷ c) (outcome.Reply r) e h =
-    more g n.labels (Ended n.thread i (returned.Ok r) ∷ Out (message.Return id (returned.Ok r)) ∷ []) h (reply_redex g r e, tt)
+    more g n.labels (Ended n.thread i (returned.Ok r) ∷ Out (message.Return id (returned.Ok r)) ∷ []) h (e, tt)
 passes_says g n (frame.Rex i id form ∷ c) (outcome.Value v) e h = h
 passes_says g n (frame.Sldb m condition again ∷ c) o e h = h
 passes_says g n (frame.Ask kind tag ∷ c) o e h = h
@@ -246,44 +239,46 @@ assigns_says : (g : Focus) (n : Now) (x : Symbol) (v : Value) (o : Option Contex
 assigns_says g n x v (Some c) h = h
 assigns_says g n x v None h = sets_says g n x v (with_dynamic x v n.context) h
 
-sets_redex : (n : Now) (x : Symbol) (v : Value) (o : Option Context) → (sets_or n x v o).redex ≡ n.redex
-sets_redex n x v (Some c) = refl
-sets_redex n x v None = refl
+-- what is asked of a row: it passes on no outcome but this redex
+abbrev saying : Focus → Wanted
+saying g = record { sure = ⊥; passed = λ o. g ≡ focus.Given o }
 
-assigns_redex : (n : Now) (x : Symbol) (v : Value) (o : Option Context) → (assigns_or n x v o).redex ≡ n.redex
-assigns_redex n x v (Some c) = refl
-assigns_redex n x v None = sets_redex n x v (with_dynamic x v n.context)
+end_says : (g : Focus) (n : Now) (d : Context) (e : End) → EndFits (saying g) e d → Says g n → Says g (carried n e)
+end_says g n d (end.Goes ps found) f h = goes_says g n ps found h
+end_says g n d (end.Gives o) f h = gives_says g n o h
+end_says g n d (end.Raises condition) f h = lays_says g n (plain.Before (focus.Enter condition) ∷ []) (Here (focus.Signal condition)) h
+end_says g n d (end.Resumes r) f h = h
+end_says g n d (end.Passes o) f h = passes_says g n n.context o f.1 h
+end_says g n d (end.Protects form cleanup) f h = protects_says g n (room n.context) form cleanup h
+end_says g n d (end.Asks kind text) f h = asks_says g n (room n.context) kind text h
+end_says g n d (end.Opens condition) f h = enters_says g n (may_open n.most n.context) condition h
+end_says g n d (end.Breaks o) f h = breaks_says g n (may_open n.most n.context) o h
+end_says g n d (end.Exits x) f h = exits_says g n x.target x.bring h
+end_says g n d (end.Takes p) f h = takes_says g n p (first_accepted p n.mailbox) h
+end_says g n d end.Closes f h = h
 
-perform_says : (g : Focus) (n : Now) (a : Act) → n.redex ≡ g → Says g n → Says g (perform n a)
-perform_says g n (act.Goes ps found) e h = goes_says g n ps found h
-perform_says g n (act.Gives o) e h = gives_says g n o h
-perform_says g n (act.Raises condition) e h = lays_says g n (plain.Before (focus.Enter condition) ∷ []) (Here (focus.Signal condition)) h
-perform_says g n (act.Resumes f) e h = h
-perform_says g n act.Passes e h = passes_says g n n.context (outcome_of n.redex) (ap outcome_of (sym e)) h
-perform_says g n (act.Protects form cleanup) e h = protects_says g n (room n.context) form cleanup h
-perform_says g n (act.Asks kind text) e h = asks_says g n (room n.context) kind text h
-perform_says g n (act.Opens condition) e h = enters_says g n (may_open n.most n.context) condition h
-perform_says g n (act.Breaks o) e h = breaks_says g n (may_open n.most n.context) o h
-perform_says g n (act.Exits x) e h = exits_says g n x.target x.bring h
-perform_says g n (act.Takes p) e h = takes_says g n p (first_accepted p n.mailbox) h
-perform_says g n act.Closes e h = h
-perform_says g n (act.Outward a) e h = perform_says g (around n (outward n.context)) a e h
-perform_says g n (act.Writes ws a) e h = perform_says g (tells n (map written ws)) a e (more g n.labels (map written ws) h (written_says g ws))
-perform_says g n (act.Changes image a) e h = perform_says g (record n { image = image }) a e h
-perform_says g n (act.Inspects vs a) e h = perform_says g (record n { inspected = vs }) a e h
-perform_says g n (act.Assigns x v a) e h = perform_says g (assigns n x v) a (assigns_redex n x v (with_lexical x v n.context) ∙ e) (assigns_says g n x v (with_lexical x v n.context) h)
-perform_says g n (act.Sets x v a) e h = perform_says g (sets n x v) a (sets_redex n x v (with_dynamic x v n.context) ∙ e) (sets_says g n x v (with_dynamic x v n.context) h)
+perform_says : (g : Focus) (n : Now) (d : Context) (a : Act) → ActFits (saying g) a d → Says g n → Says g (perform n a)
+perform_says g n d (act.Ends e) f h = end_says g n d e f h
+perform_says g n d (act.Outward a) f h = perform_says g (around n (outward n.context)) (outward d) a f h
+perform_says g n d (act.Writes ws a) f h = perform_says g (tells n (map written ws)) d a f (more g n.labels (map written ws) h (written_says g ws))
+perform_says g n d (act.Changes image a) f h = perform_says g (record n { image = image }) d a f h
+perform_says g n d (act.Inspects vs a) f h = perform_says g (record n { inspected = vs }) d a f h
+perform_says g n d (act.Assigns x v a) f h = perform_says g (assigns n x v) d a f (assigns_says g n x v (with_lexical x v n.context) h)
+perform_says g n d (act.Sets x v a) f h = perform_says g (sets n x v) d a f (sets_says g n x v (with_dynamic x v n.context) h)
 
 announced_says : (g : Focus) (n : Now) (c : Context) (f : Focus) → Says g n → Says g (announced_at n c f)
 announced_says g n (frame.Sldb m condition true ∷ c) (focus.Wait pattern.Rex) h = more g n.labels (announcement n m condition c) h tt
 announced_says g n c f h = h
 
-carried_says : (n : Now) (a : Act) → Says n.redex (the_step.carried_out n a)
-carried_says n a =
-    let d = perform (the_step.begun n) a in
-    announced_says n.redex d d.context d.redex (perform_says n.redex (the_step.begun n) a refl tt)
+carried_says : (n : Now) (d : Context) (a : Act) → ActFits (saying n.redex) a d → Says n.redex (the_step.carried_out n a)
+carried_says n d a f =
+    let m = perform (the_step.begun n) a in
+    announced_says n.redex m m.context m.redex (perform_says n.redex (the_step.begun n) d a f tt)
 
 pub step_ends_with_its_reply : (rules : Rules) (n : Now) → EndsWithItsReply rules n
 step_ends_with_its_reply rules n =
     let m = limited rules.built n in
-    either_way (Says n.redex) rules.built rules n (carried_says m (row rules m m.redex)) (carried_says m (leaving n))
+    let w = saying m.redex in
+    either_way (Says n.redex) rules.built rules n
+    (carried_says m (bares m.context) (row rules m m.redex) (row_wanted w rules m m.redex (λ s. absurd s) (λ s. absurd s) (λ o is. is)))
+    (carried_says m (bares m.context) (leaving m) (λ s. absurd s, abort_fits m.context))

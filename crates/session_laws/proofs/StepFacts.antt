@@ -12,6 +12,8 @@ use Rattle.rpc_messages.specs.declared.from_emacs.FromEmacs.TheVariants as mail
 use Rattle.rpc_messages.specs.declared.pattern.Pattern.{Pattern}
 use Rattle.rpc_messages.specs.declared.pattern.Pattern.TheVariants as pattern
 use Rattle.syntax_trees.specs.declared.ast.Ast.{Ast}
+use Rattle.term_model.specs.declared.end.End.{End}
+use Rattle.term_model.specs.declared.end.End.TheVariants as end
 use Rattle.term_model.specs.declared.focus.Focus.{Focus}
 use Rattle.term_model.specs.declared.focus.Focus.TheVariants as focus
 use Rattle.term_model.specs.declared.found.Found.{Found}
@@ -44,7 +46,7 @@ use Rattle.step_model.specs.Act as act
 use Rattle.step_model.specs.Act.{Act}
 use Rattle.step_model.specs.CurrentPackage.{binds_package, bound_package}
 use Rattle.step_model.specs.Now.{Now, around, tells}
-use Rattle.step_model.specs.Perform.{outcome_of, after_leaving, answer_in, asks, assigns, assigns_or, breaks_if, brings, calls_again, cut_off, enters_if, exhausted_if, exits, finishes, given, gives, gives_in, goes, is_top, laid, lands, lays, lays_if, outward, package_bound, passes, perform, protects, protects_value, runs_action, runs_clause, runs_handler, runs_offer, sets, sets_or, takes, took, turned, written}
+use Rattle.step_model.specs.Perform.{carried, after_leaving, answer_in, asks, assigns, assigns_or, breaks_if, brings, calls_again, cut_off, enters_if, exhausted_if, exits, finishes, given, gives, gives_in, goes, is_top, laid, lands, lays, lays_if, outward, package_bound, passes, perform, protects, protects_value, runs_action, runs_clause, runs_handler, runs_offer, sets, sets_or, takes, took, turned, written}
 use Rattle.step_model.specs.Rules.{Rules}
 use Rattle.step_model.proofs.AsBuiltLemmas.{either_way}
 use Rattle.step_model.specs.AsBuilt.{leaving, limited, step_as_built}
@@ -196,19 +198,22 @@ assigns_on : (t : ℕ) (n : Now) (x : Symbol) (v : Value) (o : Option Context) �
 assigns_on t n x v (Some c) h = h
 assigns_on t n x v None h = sets_on t n x v (with_dynamic x v n.context) h
 
+end_of : (t : ℕ) (n : Now) (e : End) → GoesOn t n → IsOf t (carried n e)
+end_of t n (end.Goes ps found) h = goes_on (goes_goes_on t n ps found h)
+end_of t n (end.Gives o) h = goes_on (gives_on t n o h)
+end_of t n (end.Raises condition) h = goes_on (lays_on t n (plain.Before (focus.Enter condition) ∷ []) (Here (focus.Signal condition)) h)
+end_of t n (end.Resumes f) h = goes_on h
+end_of t n (end.Passes o) h = passes_of t n n.context o h
+end_of t n (end.Protects e cleanup) h = goes_on (protects_on t n (room n.context) e cleanup h)
+end_of t n (end.Asks kind text) h = goes_on (asks_on t n (room n.context) kind text h)
+end_of t n (end.Opens condition) h = enters_of t n (may_open n.most n.context) condition h
+end_of t n (end.Breaks o) h = breaks_of t n (may_open n.most n.context) o h
+end_of t n (end.Exits x) h = exits_of t n x.target x.bring h
+end_of t n (end.Takes p) h = goes_on (takes_on t n p (first_accepted p n.mailbox) h)
+end_of t n end.Closes h = goes_on h
+
 perform_of : (t : ℕ) (n : Now) (a : Act) → GoesOn t n → IsOf t (perform n a)
-perform_of t n (act.Goes ps found) h = goes_on (goes_goes_on t n ps found h)
-perform_of t n (act.Gives o) h = goes_on (gives_on t n o h)
-perform_of t n (act.Raises condition) h = goes_on (lays_on t n (plain.Before (focus.Enter condition) ∷ []) (Here (focus.Signal condition)) h)
-perform_of t n (act.Resumes f) h = goes_on h
-perform_of t n act.Passes h = passes_of t n n.context (outcome_of n.redex) h
-perform_of t n (act.Protects e cleanup) h = goes_on (protects_on t n (room n.context) e cleanup h)
-perform_of t n (act.Asks kind text) h = goes_on (asks_on t n (room n.context) kind text h)
-perform_of t n (act.Opens condition) h = enters_of t n (may_open n.most n.context) condition h
-perform_of t n (act.Breaks o) h = breaks_of t n (may_open n.most n.context) o h
-perform_of t n (act.Exits x) h = exits_of t n x.target x.bring h
-perform_of t n (act.Takes p) h = goes_on (takes_on t n p (first_accepted p n.mailbox) h)
-perform_of t n act.Closes h = goes_on h
+perform_of t n (act.Ends e) h = end_of t n e h
 perform_of t n (act.Outward a) h = perform_of t (around n (outward n.context)) a h
 perform_of t n (act.Writes ws a) h = perform_of t (tells n (map written ws)) a h
 perform_of t n (act.Changes image a) h = perform_of t (record n { image = image }) a h

@@ -4,7 +4,6 @@ use Rattle.rpc_messages.specs.declared.from_emacs.FromEmacs.{FromEmacs}
 use Rattle.rpc_messages.specs.declared.from_emacs.FromEmacs.TheVariants as mail
 use Rattle.term_model.specs.Breaks.{broken, may_open}
 use Rattle.term_model.specs.Label.{Broke}
-use Rattle.term_model.specs.Room.{levels}
 use Rattle.term_model.specs.Term.{split}
 use Rattle.step_model.specs.Rules.{Rules}
 use Rattle.session_model.specs.declared.event.Entry.{Entry}

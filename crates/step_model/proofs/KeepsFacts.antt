@@ -21,7 +21,7 @@ use Rattle.step_model.specs.Table.{row}
 use Rattle.step_model.proofs.AsBuiltLemmas.{either_way}
 use Rattle.step_model.proofs.BareLemmas.{may_open-bares}
 use Rattle.step_model.proofs.FitLemmas.{Sound}
-use Rattle.step_model.proofs.PerformFits.{ActFits, perform_fits}
+use Rattle.step_model.proofs.PerformFits.{ActFits, known, perform_fits}
 use Rattle.step_model.proofs.RowFits.{row_fits}
 use Rattle.step_model.proofs.TargetFits.{abort_fits}
 
@@ -30,7 +30,7 @@ announced_fits most n (frame.Sldb m condition true ∷ c) (focus.Wait pattern.Re
     record { layers = subst (λ x. LayersFit (bares x)) e h.layers; redex = refl }
 announced_fits most n c f e g h = h
 
-carried_fits : (n : Now) (a : Act) → ActFits a (bares n.context) → Sound n (carried_out n a)
+carried_fits : (n : Now) (a : Act) → ActFits known a (bares n.context) → Sound n (carried_out n a)
 carried_fits n a h =
     let d = perform (begun n) a in
     announced_fits n.most d d.context d.redex refl refl (perform_fits (begun n) a h)
@@ -42,7 +42,7 @@ step_keeps rules n h = carried_fits n (row rules n n.redex) (row_fits rules n n.
 pub as_built_keeps : (built : Built) (rules : Rules) (n : Now) → IsSound built.levels n.context n.redex → Sound (limited built n) (step_as_built built rules n)
 as_built_keeps built rules n h =
     let m = limited built n in
-    either_way (Sound m) built rules n (step_keeps rules m h) (carried_fits m (leaving n) (h.layers, abort_fits n.context))
+    either_way (Sound m) built rules n (step_keeps rules m h) (carried_fits m (leaving n) (λ s. h.layers, abort_fits n.context))
 
 -- ---- breaks
 

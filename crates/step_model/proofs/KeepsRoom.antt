@@ -14,6 +14,8 @@ use Rattle.rpc_messages.specs.declared.from_emacs.FromEmacs.TheVariants as mail
 use Rattle.rpc_messages.specs.declared.pattern.Pattern.{Pattern}
 use Rattle.rpc_messages.specs.declared.pattern.Pattern.TheVariants as pattern
 use Rattle.syntax_trees.specs.declared.ast.Ast.{Ast}
+use Rattle.term_model.specs.declared.end.End.{End}
+use Rattle.term_model.specs.declared.end.End.TheVariants as end
 use Rattle.term_model.specs.declared.focus.Focus.{Focus}
 use Rattle.term_model.specs.declared.focus.Focus.TheVariants as focus
 use Rattle.term_model.specs.declared.found.Found.TheVariants.{Here}
@@ -38,7 +40,7 @@ use Rattle.step_model.specs.CurrentPackage.{binds_package, bound_package}
 use Rattle.step_model.specs.Decision.{decided}
 use Rattle.step_model.specs.Facts.{FocusFits, IsSound, bares, waits}
 use Rattle.step_model.specs.Now.{Now, around, tells}
-use Rattle.step_model.specs.Perform.{outcome_of, answer_in, asks, assigns, awaited, begins, breaks_if, enters_if, interrupted, offering, outward, package_bound, passes, perform, protects, protects_value, sets, takes, takes_mail, took, turned, written}
+use Rattle.step_model.specs.Perform.{answer_in, asks, assigns, awaited, begins, breaks_if, enters_if, interrupted, offering, outward, package_bound, passes, perform, protects, protects_value, sets, takes, takes_mail, took, turned, written, carried}
 use Rattle.step_model.specs.Rooms.{BrokenRoom, HasRoom, HasRoomBroken, LayersRoom, RedexRoom, extra, is_offering, number_if}
 use Rattle.step_model.specs.Kinds.{gives_made}
 use Rattle.step_model.specs.Requests.{asked, finished}
@@ -49,7 +51,7 @@ use Rattle.step_model.proofs.AsBuiltLemmas.{either_way}
 use Rattle.step_model.proofs.BareLemmas.{bares-with_dynamic, bares-with_lexical, length-bares, levels-bares}
 use Rattle.step_model.proofs.ExitRooms.{Bounded, exits_room, redex_bounded}
 use Rattle.step_model.proofs.FitLemmas.{Place}
-use Rattle.step_model.proofs.PerformFits.{ActFits, assigns_same, bares-outward, first_is_accepted, sets_same}
+use Rattle.step_model.proofs.PerformFits.{ActFits, EndFits, known, placed, assigns_same, bares-outward, first_is_accepted, sets_same}
 use Rattle.step_model.proofs.RoomLemmas.{Inner, Roomy, any_redex, exhausted_room, gives_room, goes_room, lays_room, limit-least, limit-more, opens_room}
 use Rattle.step_model.proofs.RowFits.{row_fits}
 use Rattle.step_model.proofs.TargetFits.{abort_fits}
@@ -162,30 +164,33 @@ outward_inner (frame.Sldb m condition again ∷ c) h g = record { rooms = h; wit
 both : (d e : Context) → d ≡ e → Inner d → Inner e
 both d e same i = subst Inner same i
 
-perform_room : (n : Now) (a : Act) → ActFits a (bares n.context) → Inner (bares n.context) → Roomy (perform n a)
-perform_room n (act.Goes ps found) f i = goes_room n ps found i.rooms (omega (arith, i.within))
-perform_room n (act.Gives o) f i = gives_room n o i.rooms (omega (arith, i.within))
-perform_room n (act.Raises condition) f i = lays_room n (plain.Before (focus.Enter condition) ∷ []) (Here (focus.Signal condition)) i.rooms (omega (arith, i.within))
-perform_room n (act.Resumes g) f i = record { layers = i.rooms; redex = any_redex g (bares n.context) i.within }
-perform_room n act.Passes f i = passes_room n n.context (outcome_of n.redex) f i.rooms (omega (arith, i.within))
-perform_room n (act.Protects e cleanup) f i = protects_room n (room n.context) e cleanup refl i.rooms i.within
-perform_room n (act.Asks kind text) f i = asks_room n (room n.context) kind text refl i.rooms i.within
-perform_room n (act.Opens condition) f i = enters_room n (may_open n.most n.context) condition i.rooms i.within
-perform_room n (act.Breaks o) f i = breaks_room n (may_open n.most n.context) o i.rooms (omega (arith, i.within))
-perform_room n (act.Exits x) f i = exits_room n x.target x.bring i.rooms (within_bounded (bares n.context) i.within) f.1
-perform_room n (act.Takes p) f i = takes_room n p (first_accepted p n.mailbox) refl f.1 i.rooms i.within
-perform_room n act.Closes f i = record { layers = i.rooms; redex = i.within }
+end_room : (n : Now) (e : End) → EndFits known e (bares n.context) → Inner (bares n.context) → Roomy (carried n e)
+end_room n (end.Goes ps found) f i = goes_room n ps found i.rooms (omega (arith, i.within))
+end_room n (end.Gives o) f i = gives_room n o i.rooms (omega (arith, i.within))
+end_room n (end.Raises condition) f i = lays_room n (plain.Before (focus.Enter condition) ∷ []) (Here (focus.Signal condition)) i.rooms (omega (arith, i.within))
+end_room n (end.Resumes g) f i = record { layers = i.rooms; redex = any_redex g (bares n.context) i.within }
+end_room n (end.Passes o) f i = passes_room n n.context o (placed f.0) i.rooms (omega (arith, i.within))
+end_room n (end.Protects e cleanup) f i = protects_room n (room n.context) e cleanup refl i.rooms i.within
+end_room n (end.Asks kind text) f i = asks_room n (room n.context) kind text refl i.rooms i.within
+end_room n (end.Opens condition) f i = enters_room n (may_open n.most n.context) condition i.rooms i.within
+end_room n (end.Breaks o) f i = breaks_room n (may_open n.most n.context) o i.rooms (omega (arith, i.within))
+end_room n (end.Exits x) f i = exits_room n x.target x.bring i.rooms (within_bounded (bares n.context) i.within) f.1
+end_room n (end.Takes p) f i = takes_room n p (first_accepted p n.mailbox) refl (f tt).1 i.rooms i.within
+end_room n end.Closes f i = record { layers = i.rooms; redex = i.within }
+
+perform_room : (n : Now) (a : Act) → ActFits known a (bares n.context) → Inner (bares n.context) → Roomy (perform n a)
+perform_room n (act.Ends e) f i = end_room n e f i
 perform_room n (act.Outward a) f i =
-    perform_room (around n (outward n.context)) a (subst (λ d. ActFits a d) (sym (bares-outward n.context)) f) (outward_inner n.context i.rooms i.within)
+    perform_room (around n (outward n.context)) a (subst (λ d. ActFits known a d) (sym (bares-outward n.context)) f) (outward_inner n.context i.rooms i.within)
 perform_room n (act.Writes ws a) f i = perform_room (tells n (map written ws)) a f i
 perform_room n (act.Changes image a) f i = perform_room (record n { image = image }) a f i
 perform_room n (act.Inspects vs a) f i = perform_room (record n { inspected = vs }) a f i
 perform_room n (act.Assigns x v a) f i =
     let same : bares (assigns n x v).context ≡ bares n.context = assigns_same n x v (with_lexical x v n.context) (bares-with_lexical x v n.context) in
-    perform_room (assigns n x v) a (subst (λ d. ActFits a d) (sym same) f) (both (bares n.context) (bares (assigns n x v).context) (sym same) i)
+    perform_room (assigns n x v) a (subst (λ d. ActFits known a d) (sym same) f) (both (bares n.context) (bares (assigns n x v).context) (sym same) i)
 perform_room n (act.Sets x v a) f i =
     let same : bares (sets n x v).context ≡ bares n.context = sets_same n x v (with_dynamic x v n.context) (bares-with_dynamic x v n.context) in
-    perform_room (sets n x v) a (subst (λ d. ActFits a d) (sym same) f) (both (bares n.context) (bares (sets n x v).context) (sym same) i)
+    perform_room (sets n x v) a (subst (λ d. ActFits known a d) (sym same) f) (both (bares n.context) (bares (sets n x v).context) (sym same) i)
 
 -- ---- the redexes that may be past the limit
 
@@ -204,26 +209,26 @@ tail_inner (frame.Rex i id form) c e h g = absurd (false≢true e)
 tail_inner (frame.Sldb m condition again) c e h g = absurd (false≢true e)
 
 -- an act that begins by leaving the layer directly around
-outward_room : (n : Now) (l : Frame) (c : Context) (a : Act) → is_plain_or_question l ≡ true → outward (l ∷ c) ≡ c → ActFits a (bares c) → LayersRoom (bares (l ∷ c)) → layers (bares (l ∷ c)) ≤ limit (levels (bares (l ∷ c))) + 1 → Roomy (perform (around n (l ∷ c)) (act.Outward a))
+outward_room : (n : Now) (l : Frame) (c : Context) (a : Act) → is_plain_or_question l ≡ true → outward (l ∷ c) ≡ c → ActFits known a (bares c) → LayersRoom (bares (l ∷ c)) → layers (bares (l ∷ c)) ≤ limit (levels (bares (l ∷ c))) + 1 → Roomy (perform (around n (l ∷ c)) (act.Outward a))
 outward_room n l c a e same f h g =
     let i = tail_inner l c e h g in
-    perform_room (around n (outward (l ∷ c))) a (subst (λ d. ActFits a (bares d)) (sym same) f) (subst (λ d. Inner (bares d)) (sym same) i)
+    perform_room (around n (outward (l ∷ c))) a (subst (λ d. ActFits known a (bares d)) (sym same) f) (subst (λ d. Inner (bares d)) (sym same) i)
 
 -- the row of one thread, carried out by another in the same place
-given_room : (rules : Rules) (n m : Now) (c : Context) (o : Outcome) → ActFits (decided n (given_row rules c o)) (bares c) → LayersRoom (bares c) → layers (bares c) ≤ limit (levels (bares c)) + 1 → Roomy (perform (around m c) (decided n (given_row rules c o)))
-given_room rules n m [] o f h g = passes_room (around m []) [] (outcome_of m.redex) f h g
+given_room : (rules : Rules) (n m : Now) (c : Context) (o : Outcome) → ActFits known (decided n (given_row rules c o)) (bares c) → LayersRoom (bares c) → layers (bares c) ≤ limit (levels (bares c)) + 1 → Roomy (perform (around m c) (decided n (given_row rules c o)))
+given_room rules n m [] o f h g = passes_room (around m []) [] o (placed f.0) h g
 given_room rules n m (frame.On (plain.Before q) ∷ c) o f h g = outward_room m (frame.On (plain.Before q)) c (act.Resumes q) refl refl f h g
 given_room rules n m (frame.On (plain.Answer kept) ∷ c) (outcome.Value v) f h g = outward_room m (frame.On (plain.Answer kept)) c (finished (around n c) v (rules.finish (asked (around n c)) kept v)) refl refl f h g
 given_room rules n m (frame.On p ∷ c) o f h g = outward_room m (frame.On p) c (act.Gives o) refl refl f h g
 given_room rules n m (frame.Ask kind tag ∷ c) (outcome.Value v) f h g = outward_room m (frame.Ask kind tag) c (gives_made (answered kind (out-Value v))) refl refl f h g
 given_room rules n m (frame.Ask kind tag ∷ c) (outcome.Reply r) f h g = outward_room m (frame.Ask kind tag) c (act.Gives (outcome.Reply r)) refl refl f h g
-given_room rules n m (frame.Protect k cleanup ∷ c) o f h g = passes_room (around m (frame.Protect k cleanup ∷ c)) (frame.Protect k cleanup ∷ c) (outcome_of m.redex) f h g
-given_room rules n m (frame.Cleanup k kept ∷ c) o f h g = passes_room (around m (frame.Cleanup k kept ∷ c)) (frame.Cleanup k kept ∷ c) (outcome_of m.redex) f h g
-given_room rules n m (frame.Rex i id form ∷ c) o f h g = passes_room (around m (frame.Rex i id form ∷ c)) (frame.Rex i id form ∷ c) (outcome_of m.redex) f h g
-given_room rules n m (frame.Sldb level condition again ∷ c) o f h g = passes_room (around m (frame.Sldb level condition again ∷ c)) (frame.Sldb level condition again ∷ c) (outcome_of m.redex) f h g
+given_room rules n m (frame.Protect k cleanup ∷ c) o f h g = passes_room (around m (frame.Protect k cleanup ∷ c)) (frame.Protect k cleanup ∷ c) o (placed f.0) h g
+given_room rules n m (frame.Cleanup k kept ∷ c) o f h g = passes_room (around m (frame.Cleanup k kept ∷ c)) (frame.Cleanup k kept ∷ c) o (placed f.0) h g
+given_room rules n m (frame.Rex i id form ∷ c) o f h g = passes_room (around m (frame.Rex i id form ∷ c)) (frame.Rex i id form ∷ c) o (placed f.0) h g
+given_room rules n m (frame.Sldb level condition again ∷ c) o f h g = passes_room (around m (frame.Sldb level condition again ∷ c)) (frame.Sldb level condition again ∷ c) o (placed f.0) h g
 
 -- the row of a redex
-row_room : (rules : Rules) (n : Now) (f : Focus) → ActFits (row rules n f) (bares n.context) → LayersRoom (bares n.context) → BrokenRoom f (bares n.context) → Roomy (perform (begun n) (row rules n f))
+row_room : (rules : Rules) (n : Now) (f : Focus) → ActFits known (row rules n f) (bares n.context) → LayersRoom (bares n.context) → BrokenRoom f (bares n.context) → Roomy (perform (begun n) (row rules n f))
 row_room rules n (focus.Given o) a h g = given_room rules n (begun n) n.context o a h g
 row_room rules n (focus.Break o) a h g = breaks_room (begun n) (may_open n.most n.context) _ h g
 row_room rules n focus.Abort a h g = abort_room (begun n) h (redex_bounded focus.Abort (bares n.context) g)

@@ -21,6 +21,7 @@ use Rattle.syntax_trees.specs.declared.row.Named.{Named}
 use Rattle.syntax_trees.specs.declared.row.Named.TheVariants as named
 use Rattle.syntax_trees.specs.declared.row.Row.{Row}
 use Rattle.syntax_trees.specs.declared.row.Row.TheVariants as row
+use Rattle.term_model.specs.declared.end.End.TheVariants as end
 use Rattle.term_model.specs.declared.focus.Focus.{Focus}
 use Rattle.term_model.specs.declared.focus.Focus.TheVariants as focus
 use Rattle.term_model.specs.declared.found.Found.{Found}
@@ -81,7 +82,7 @@ lexical_with x v (frame.Ask kind tag ∷ c) h = further_with (frame.Ask kind tag
 -- ---- the acts of listed forms: a form or a value in place of the redex, after an assignment maybe
 
 abbrev goes_in : Context → Act → Bool
-goes_in c (act.Goes ps found) = true
+goes_in c (act.Ends (end.Goes ps found)) = true
 goes_in c (act.Assigns x v a) = option_map_or (λ d. goes_in d a) (with_lexical x v c) false
 goes_in c _ = false
 
@@ -342,7 +343,7 @@ assigned_quiet c a (Some d) same h go g = go d g (sym (waits-bares d) ∙ ap wai
 assigned_quiet c a None same h go g = tt
 
 going_quiet : (c : Context) (a : Act) → goes_in c a ≡ true → waits c ≡ false → Quiet (performed_alone c a)
-going_quiet c (act.Goes ps x) g h = goes_quiet c ps x h
+going_quiet c (act.Ends (end.Goes ps x)) g h = goes_quiet c ps x h
 going_quiet c (act.Assigns x v a) g h = assigned_quiet c a (with_lexical x v c) (bares-with_lexical x v c) h (λ d. going_quiet d a) g
 going_quiet c a g h = absurd (false≢true g)
 
@@ -352,7 +353,7 @@ assigned_of_term a (Some d) go h = go d h
 assigned_of_term a None go h = absurd (false≢true h)
 
 going_of_term : (c : Context) (a : Act) → goes_in c a ≡ true → is_of_term c a ≡ true
-going_of_term c (act.Goes ps x) h = refl
+going_of_term c (act.Ends (end.Goes ps x)) h = refl
 going_of_term c (act.Assigns x v a) h = assigned_of_term a (with_lexical x v c) (λ d. going_of_term d a) h
 going_of_term c a h = absurd (false≢true h)
 

@@ -6,6 +6,7 @@ use Rattle.std.proofs.lemmas.Bool.{false≢true}
 use Rattle.lisp_data.specs.declared.symbol.Symbol.{Symbol}
 use Rattle.lisp_data.specs.declared.value.Value.{Value}
 use Rattle.rpc_messages.specs.declared.pattern.Pattern.TheVariants as pattern
+use Rattle.term_model.specs.declared.end.End.TheVariants as end
 use Rattle.term_model.specs.declared.focus.Focus.{Focus}
 use Rattle.term_model.specs.declared.focus.Focus.TheVariants as focus
 use Rattle.term_model.specs.declared.found.Found.{Found}
@@ -54,9 +55,9 @@ goes_alone c [] (Already v) = gives_alone c (outcome.Value v)
 goes_alone c ps found = lays_alone c ps found
 
 abbrev pub performed_alone : Context → Act → Option Spot
-performed_alone c (act.Goes ps found) = goes_alone c ps found
-performed_alone c (act.Gives o) = gives_alone c o
-performed_alone c (act.Resumes f) = Some (c, f)
+performed_alone c (act.Ends (end.Goes ps found)) = goes_alone c ps found
+performed_alone c (act.Ends (end.Gives o)) = gives_alone c o
+performed_alone c (act.Ends (end.Resumes f)) = Some (c, f)
 performed_alone c (act.Outward a) = performed_alone (outward c) a
 performed_alone c (act.Assigns x v a) = option_and_then (λ d. performed_alone d a) (with_lexical x v c)
 performed_alone c _ = None
@@ -104,9 +105,9 @@ assigned_is n x v a None go = tt
 assigned_is n x v a (Some d) go = gets_around (performed_alone d a) n d (perform (around n d) a) (go (around n d))
 
 performed_is : (n : Now) (a : Act) → Gets (performed_alone n.context a) n (perform n a)
-performed_is n (act.Goes ps found) = goes_is n ps found
-performed_is n (act.Gives o) = gives_in_is n n.context o
-performed_is n (act.Resumes f) = refl
+performed_is n (act.Ends (end.Goes ps found)) = goes_is n ps found
+performed_is n (act.Ends (end.Gives o)) = gives_in_is n n.context o
+performed_is n (act.Ends (end.Resumes f)) = refl
 performed_is n (act.Outward a) =
     gets_around (performed_alone (outward n.context) a) n (outward n.context) (perform (around n (outward n.context)) a) (performed_is (around n (outward n.context)) a)
 performed_is n (act.Assigns x v a) = assigned_is n x v a (with_lexical x v n.context) (λ m. performed_is m a)
@@ -169,9 +170,9 @@ assigned_made a None go h g = absurd (false≢true h)
 assigned_made a (Some d) go h g = go d h g
 
 pub act_made : (c : Context) (a : Act) → is_of_term c a ≡ true → has_room c a ≡ true → is_some (performed_alone c a) ≡ true
-act_made c (act.Goes ps found) h g = found_made c ps found g
-act_made c (act.Gives o) h g = outcome_made c o g
-act_made c (act.Resumes f) h g = refl
+act_made c (act.Ends (end.Goes ps found)) h g = found_made c ps found g
+act_made c (act.Ends (end.Gives o)) h g = outcome_made c o g
+act_made c (act.Ends (end.Resumes f)) h g = refl
 act_made c (act.Outward a) h g = act_made (outward c) a h g
 act_made c (act.Assigns x v a) h g = assigned_made a (with_lexical x v c) (λ d. act_made d a) h g
 act_made c a h g = absurd (false≢true h)

@@ -15,6 +15,8 @@ use Rattle.rpc_messages.specs.declared.from_emacs.FromEmacs.TheVariants as mail
 use Rattle.rpc_messages.specs.declared.pattern.Pattern.{Pattern}
 use Rattle.rpc_messages.specs.declared.pattern.Pattern.TheVariants as pattern
 use Rattle.syntax_trees.specs.declared.ast.Ast.{Ast}
+use Rattle.term_model.specs.declared.end.End.{End}
+use Rattle.term_model.specs.declared.end.End.TheVariants as end
 use Rattle.term_model.specs.declared.focus.Focus.{Focus}
 use Rattle.term_model.specs.declared.focus.Focus.TheVariants as focus
 use Rattle.term_model.specs.declared.found.Found.{Found}
@@ -53,7 +55,7 @@ use Rattle.step_model.specs.Marks.{State, marks, state_of}
 use Rattle.step_model.specs.Moves as move
 use Rattle.step_model.specs.Moves.{At, Comes, Path, Phase, Calm, Made, Turned, announced_level, go, stay}
 use Rattle.step_model.specs.Now.{Now, around, tells}
-use Rattle.step_model.specs.Perform.{outcome_of, after_leaving, answer_in, asks, assigns, assigns_or, brings, calls_again, cut_off, ends, enters_if, breaks_if, exhausted_if, exits, finishes, given, gives, gives_in, goes, interrupted, laid, lands, lays, lays_if, offering, opens, outward, package_bound, passes, perform, protects, protects_value, runs_action, runs_clause, runs_handler, runs_offer, sets, sets_or, takes, took, turned, written}
+use Rattle.step_model.specs.Perform.{after_leaving, answer_in, asks, assigns, assigns_or, brings, calls_again, cut_off, ends, enters_if, breaks_if, exhausted_if, exits, finishes, given, gives, gives_in, goes, interrupted, laid, lands, lays, lays_if, offering, opens, outward, package_bound, passes, perform, protects, protects_value, runs_action, runs_clause, runs_handler, runs_offer, sets, sets_or, takes, took, turned, written, carried}
 use Rattle.step_model.specs.Rules.{Rules, Writing}
 use Rattle.step_model.specs.Step as the_step
 use Rattle.step_model.specs.Step.{announced_at}
@@ -270,19 +272,22 @@ assigns_path : {ph : Phase} (s : State) (n : Now) (x : Symbol) (v : Value) (o : 
 assigns_path s n x v (Some c) e h = same s n c e h
 assigns_path s n x v None e h = sets_path s n x v (with_dynamic x v n.context) (marks-with_dynamic x v n.context) h
 
+end_path : (s : State) (n : Now) (e : End) → At s n Calm → Comes s (carried n e)
+end_path s n (end.Goes ps found) h = (Calm, goes_path s n ps found h)
+end_path s n (end.Gives o) h = (Calm, gives_path s n o h)
+end_path s n (end.Raises condition) h = (Calm, lays_path s n (plain.Before (focus.Enter condition) ∷ []) (Here (focus.Signal condition)) h)
+end_path s n (end.Resumes f) h = (Calm, h)
+end_path s n (end.Passes o) h = passes_path s n n.context o h
+end_path s n (end.Protects e cleanup) h = protects_path s n (room n.context) e cleanup h
+end_path s n (end.Asks kind text) h = asks_path s n (room n.context) kind text h
+end_path s n (end.Opens condition) h = enters_path s n (may_open n.most n.context) condition refl h
+end_path s n (end.Breaks o) h = breaks_path s n (may_open n.most n.context) o refl h
+end_path s n (end.Exits x) h = exits_path s n x.target x.bring h
+end_path s n (end.Takes p) h = takes_path s n p (first_accepted p n.mailbox) refl h
+end_path s n end.Closes h = (Calm, h)
+
 pub perform_path : (s : State) (n : Now) (a : Act) → At s n Calm → Comes s (perform n a)
-perform_path s n (act.Goes ps found) h = (Calm, goes_path s n ps found h)
-perform_path s n (act.Gives o) h = (Calm, gives_path s n o h)
-perform_path s n (act.Raises condition) h = (Calm, lays_path s n (plain.Before (focus.Enter condition) ∷ []) (Here (focus.Signal condition)) h)
-perform_path s n (act.Resumes f) h = (Calm, h)
-perform_path s n act.Passes h = passes_path s n n.context (outcome_of n.redex) h
-perform_path s n (act.Protects e cleanup) h = protects_path s n (room n.context) e cleanup h
-perform_path s n (act.Asks kind text) h = asks_path s n (room n.context) kind text h
-perform_path s n (act.Opens condition) h = enters_path s n (may_open n.most n.context) condition refl h
-perform_path s n (act.Breaks o) h = breaks_path s n (may_open n.most n.context) o refl h
-perform_path s n (act.Exits x) h = exits_path s n x.target x.bring h
-perform_path s n (act.Takes p) h = takes_path s n p (first_accepted p n.mailbox) refl h
-perform_path s n act.Closes h = (Calm, h)
+perform_path s n (act.Ends e) h = end_path s n e h
 perform_path s n (act.Outward a) h = perform_path s (around n (outward n.context)) a (outward_path s n n.context h)
 perform_path s n (act.Writes ws a) h = perform_path s (tells n (map written ws)) a (writes_path s n ws h)
 perform_path s n (act.Changes image a) h = perform_path s (record n { image = image }) a h

@@ -16,6 +16,8 @@ use Rattle.rpc_messages.specs.declared.pattern.Pattern.{Pattern}
 use Rattle.rpc_messages.specs.declared.pattern.Pattern.TheVariants as pattern
 use Rattle.syntax_trees.specs.declared.ast.Ast.{Ast}
 use Rattle.syntax_trees.specs.Places.{forms_of, row_of}
+use Rattle.term_model.specs.declared.end.End.{End}
+use Rattle.term_model.specs.declared.end.End.TheVariants as end
 use Rattle.term_model.specs.declared.focus.Focus.TheVariants as focus
 use Rattle.term_model.specs.declared.found.Found.TheVariants.{Already, Here}
 use Rattle.term_model.specs.declared.frame.Frame.{Frame}
@@ -46,32 +48,54 @@ use Rattle.step_model.specs.Act.{Act}
 use Rattle.step_model.specs.CurrentPackage.{binds_package, bound_package}
 use Rattle.step_model.specs.Facts.{FocusFits, IsSound, LayersFit, TargetFits, bares, waits}
 use Rattle.step_model.specs.Now.{Mailbox, Now, around, tells}
-use Rattle.step_model.specs.Perform.{outcome_of, after_leaving, answer_in, asks, assigns, assigns_or, awaited, begins, breaks_if, brings, calls_again, clause_bound, condition_bound, enters_if, exits, interrupted, lands, offering, outward, package_bound, parameters_bound, passes, perform, protects, protects_value, runs, runs_action, runs_clause, runs_handler, runs_offer, sets, sets_or, takes, takes_mail, took, turned, written}
+use Rattle.step_model.specs.Perform.{after_leaving, answer_in, asks, assigns, assigns_or, awaited, begins, breaks_if, brings, calls_again, clause_bound, condition_bound, enters_if, exits, interrupted, lands, offering, outward, package_bound, parameters_bound, passes, perform, protects, protects_value, runs, runs_action, runs_clause, runs_handler, runs_offer, sets, sets_or, takes, takes_mail, took, turned, written, carried}
 use Rattle.step_model.specs.Roles.{Role, HandlerClause, RestartClause, role_of}
 use Rattle.step_model.proofs.BareLemmas.{SameBares, bares-stir, bares-with_dynamic, bares-with_lexical}
 use Rattle.step_model.proofs.FitLemmas.{FoundFits, Place, PlainsFit, Sound, body_fits, exhausted_place, gives_fits, goes_fits, lays_fits, look_fits, opens_fits, redex_stands}
 use Rattle.step_model.proofs.TargetFits.{LeavesWell, TodoFits, abort_fits, brings_nothing, leaves_well}
 
+-- what a law knows of a thread, and what it asks of an outcome that a row passes on
+pub record Wanted : Type 1 where
+  -- that the facts hold of the thread's term
+  pub sure : Type 0
+  pub passed : Outcome → Type 0
+
+-- where the facts hold
+abbrev pub known : Wanted
+known = record { sure = Unit {0}; passed = λ o. Unit {0} }
+
+-- a place inside a request, where the facts hold
+pub record PlaceIf (w : Wanted) (d : Context) : Type 0 where
+  pub layers : w.sure → LayersFit d
+  pub busy : w.sure → waits d ≡ false
+
+pub placed : {d : Context} → PlaceIf known d → Place d
+placed h = record { layers = h.layers tt; busy = h.busy tt }
+
+-- what an end asks of its place
+abbrev pub EndFits : Wanted → End → Context → Type 0
+EndFits w (end.Goes ps found) d = PlaceIf w d × (w.sure → PlainsFit ps d) × FoundFits found
+EndFits w (end.Gives o) d = PlaceIf w d
+EndFits w (end.Raises condition) d = PlaceIf w d
+EndFits w (end.Resumes f) d = w.sure → LayersFit d × FocusFits f d
+EndFits w (end.Passes o) d = PlaceIf w d × w.passed o
+EndFits w (end.Protects e cleanup) d = PlaceIf w d
+EndFits w (end.Asks kind text) d = PlaceIf w d
+EndFits w (end.Opens condition) d = PlaceIf w d
+EndFits w (end.Breaks o) d = PlaceIf w d
+EndFits w (end.Exits x) d = (w.sure → LayersFit d) × TargetFits x.target x.bring d
+EndFits w (end.Takes p) d = w.sure → LayersFit d × FocusFits (focus.Wait p) d
+EndFits w end.Closes d = PlaceIf w d
+
 -- what an act asks of its place
-abbrev pub ActFits : Act → Context → Type 0
-ActFits (act.Goes ps found) d = Place d × PlainsFit ps d × FoundFits found
-ActFits (act.Gives o) d = Place d
-ActFits (act.Raises condition) d = Place d
-ActFits (act.Resumes f) d = LayersFit d × FocusFits f d
-ActFits act.Passes d = Place d
-ActFits (act.Protects e cleanup) d = Place d
-ActFits (act.Asks kind text) d = Place d
-ActFits (act.Opens condition) d = Place d
-ActFits (act.Breaks o) d = Place d
-ActFits (act.Exits x) d = LayersFit d × TargetFits x.target x.bring d
-ActFits (act.Takes p) d = LayersFit d × FocusFits (focus.Wait p) d
-ActFits act.Closes d = Place d
-ActFits (act.Outward a) d = ActFits a (outward d)
-ActFits (act.Writes ws a) d = ActFits a d
-ActFits (act.Changes image a) d = ActFits a d
-ActFits (act.Inspects vs a) d = ActFits a d
-ActFits (act.Assigns x v a) d = ActFits a d
-ActFits (act.Sets x v a) d = ActFits a d
+abbrev pub ActFits : Wanted → Act → Context → Type 0
+ActFits w (act.Ends e) d = EndFits w e d
+ActFits w (act.Outward a) d = ActFits w a (outward d)
+ActFits w (act.Writes ws a) d = ActFits w a d
+ActFits w (act.Changes image a) d = ActFits w a d
+ActFits w (act.Inspects vs a) d = ActFits w a d
+ActFits w (act.Assigns x v a) d = ActFits w a d
+ActFits w (act.Sets x v a) d = ActFits w a d
 
 -- ---- bindings
 
@@ -249,26 +273,30 @@ bares-outward (frame.Rex i id form ∷ c) = refl
 bares-outward (frame.Sldb m condition again ∷ c) = refl
 bares-outward (frame.Ask kind tag ∷ c) = refl
 
-pub perform_fits : (n : Now) (a : Act) → ActFits a (bares n.context) → Sound n (perform n a)
-perform_fits n (act.Goes ps found) h = goes_fits n ps found h.0 h.1 h.2
-perform_fits n (act.Gives o) h = gives_fits n o h
-perform_fits n (act.Raises condition) h = lays_fits n (plain.Before (focus.Enter condition) ∷ []) (Here (focus.Signal condition)) h (h.busy, tt) refl
-perform_fits n (act.Resumes f) h = record { layers = h.0; redex = redex_stands n.most f (bares n.context) h.1 }
-perform_fits n act.Passes h = passes_fits n n.context (outcome_of n.redex) h
-perform_fits n (act.Protects e cleanup) h = protects_fits n (room n.context) e cleanup h
-perform_fits n (act.Asks kind text) h = asks_fits n (room n.context) kind text h
-perform_fits n (act.Opens condition) h = enters_fits n (may_open n.most n.context) condition h
-perform_fits n (act.Breaks o) h = breaks_fits n (may_open n.most n.context) o h
-perform_fits n (act.Exits x) h = exits_fits n x.target x.bring h.0 h.1
-perform_fits n (act.Takes p) h = takes_fits n p (first_accepted p n.mailbox) refl h.0 h.1
-perform_fits n act.Closes h = record { layers = h.layers; redex = h.busy }
-perform_fits n (act.Outward a) h = perform_fits (around n (outward n.context)) a (subst (λ d. ActFits a d) (sym (bares-outward n.context)) h)
+end_fits : (n : Now) (e : End) → EndFits known e (bares n.context) → Sound n (carried n e)
+end_fits n (end.Goes ps found) h = goes_fits n ps found (placed h.0) (h.1 tt) h.2
+end_fits n (end.Gives o) h = gives_fits n o (placed h)
+end_fits n (end.Raises condition) h =
+    lays_fits n (plain.Before (focus.Enter condition) ∷ []) (Here (focus.Signal condition)) (placed h) (h.busy tt, tt) refl
+end_fits n (end.Resumes f) h = record { layers = (h tt).0; redex = redex_stands n.most f (bares n.context) (h tt).1 }
+end_fits n (end.Passes o) h = passes_fits n n.context o (placed h.0)
+end_fits n (end.Protects e cleanup) h = protects_fits n (room n.context) e cleanup (placed h)
+end_fits n (end.Asks kind text) h = asks_fits n (room n.context) kind text (placed h)
+end_fits n (end.Opens condition) h = enters_fits n (may_open n.most n.context) condition (placed h)
+end_fits n (end.Breaks o) h = breaks_fits n (may_open n.most n.context) o (placed h)
+end_fits n (end.Exits x) h = exits_fits n x.target x.bring (h.0 tt) h.1
+end_fits n (end.Takes p) h = takes_fits n p (first_accepted p n.mailbox) refl (h tt).0 (h tt).1
+end_fits n end.Closes h = record { layers = h.layers tt; redex = h.busy tt }
+
+pub perform_fits : (n : Now) (a : Act) → ActFits known a (bares n.context) → Sound n (perform n a)
+perform_fits n (act.Ends e) h = end_fits n e h
+perform_fits n (act.Outward a) h = perform_fits (around n (outward n.context)) a (subst (λ d. ActFits known a d) (sym (bares-outward n.context)) h)
 perform_fits n (act.Writes ws a) h = perform_fits (tells n (map written ws)) a h
 perform_fits n (act.Changes image a) h = perform_fits (record n { image = image }) a h
 perform_fits n (act.Inspects vs a) h = perform_fits (record n { inspected = vs }) a h
 perform_fits n (act.Assigns x v a) h =
     let m = perform (assigns n x v) a in
-    subst (λ k. IsSound k m.context m.redex) (assigns_most n x v (with_lexical x v n.context)) (perform_fits (assigns n x v) a (subst (λ d. ActFits a d) (sym (assigns_same n x v (with_lexical x v n.context) (bares-with_lexical x v n.context))) h))
+    subst (λ k. IsSound k m.context m.redex) (assigns_most n x v (with_lexical x v n.context)) (perform_fits (assigns n x v) a (subst (λ d. ActFits known a d) (sym (assigns_same n x v (with_lexical x v n.context) (bares-with_lexical x v n.context))) h))
 perform_fits n (act.Sets x v a) h =
     let m = perform (sets n x v) a in
-    subst (λ k. IsSound k m.context m.redex) (sets_most n x v (with_dynamic x v n.context)) (perform_fits (sets n x v) a (subst (λ d. ActFits a d) (sym (sets_same n x v (with_dynamic x v n.context) (bares-with_dynamic x v n.context))) h))
+    subst (λ k. IsSound k m.context m.redex) (sets_most n x v (with_dynamic x v n.context)) (perform_fits (sets n x v) a (subst (λ d. ActFits known a d) (sym (sets_same n x v (with_dynamic x v n.context) (bares-with_dynamic x v n.context))) h))

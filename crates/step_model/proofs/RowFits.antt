@@ -20,6 +20,7 @@ use Rattle.term_model.specs.declared.kept.Outcome.{Outcome}
 use Rattle.term_model.specs.declared.kept.Outcome.TheVariants as outcome
 use Rattle.term_model.specs.declared.plain.Plain.{Plain}
 use Rattle.term_model.specs.declared.plain.Plain.TheVariants as plain
+use Rattle.term_model.specs.declared.question.Ask.{Ask}
 use Rattle.term_model.specs.declared.restart.Restart.{Restart}
 use Rattle.lisp_data.specs.Parts.{nil}
 use Rattle.term_model.specs.GoingIn.{look}
@@ -38,8 +39,8 @@ use Rattle.step_model.specs.Roles.{Role, Definition, role_of}
 use Rattle.step_model.specs.Rules as rules_of
 use Rattle.step_model.specs.Rules.{Command, Finish, Rules}
 use Rattle.step_model.specs.Table as table
-use Rattle.step_model.proofs.FitLemmas.{FoundFits, Place, PlainsFit, body_fits, look_fits}
-use Rattle.step_model.proofs.PerformFits.{ActFits}
+use Rattle.step_model.proofs.FitLemmas.{FoundFits, PlainsFit, body_fits, look_fits}
+use Rattle.step_model.proofs.PerformFits.{ActFits, PlaceIf, Wanted, known}
 use Rattle.step_model.proofs.SearchFits.{CalledAt, ClauseFits, HandlerFits, LevelFits, MaybeCalled, call_takes_value, frame_called, further_handler_fits, handler_fits, level_fits, names_out}
 use Rattle.step_model.proofs.TargetFits.{abort_fits, invoking_fits, top_fits}
 use Rattle.step_model.proofs.FormFits.{call_row_fits, counts_row, form_by_row, lists_row}
@@ -47,11 +48,11 @@ use Rattle.step_model.proofs.FunctionFits.{Busy, There, exits_or_row, goes_in, m
 
 -- ---- requests
 
-level_row : (n : Now) → Busy n → (o : Option Level) (go : Level → Act) → ((level : Level) → o ≡ Some level → ActFits (go level) (There n)) → ActFits (requests.in_level o go) (There n)
+level_row : {w : Wanted} (n : Now) → Busy w n → (o : Option Level) (go : Level → Act) → ((level : Level) → o ≡ Some level → ActFits w (go level) (There n)) → ActFits w (requests.in_level o go) (There n)
 level_row n place (Some level) go k = k level refl
 level_row n place None go k = place
 
-frame_row_in : (n : Now) → Busy n → (o : Option Framed) (go : Framed → Act) → MaybeCalled o (There n) → ((f : Framed) → CalledAt f.shown f.layer (There n) → ActFits (go f) (There n)) → ActFits (requests.in_frame o go) (There n)
+frame_row_in : {w : Wanted} (n : Now) → Busy w n → (o : Option Framed) (go : Framed → Act) → MaybeCalled o (There n) → ((f : Framed) → CalledAt f.shown f.layer (There n) → ActFits w (go f) (There n)) → ActFits w (requests.in_frame o go) (There n)
 frame_row_in n place (Some f) go h k = k f h
 frame_row_in n place None go h k = place
 
@@ -59,14 +60,14 @@ maybe_called : (o : Option Framed) (d e : Context) → ((s : Shown) (k : ℕ) �
 maybe_called None d e h g = tt
 maybe_called (Some f) d e h g = h f.shown f.layer g
 
-frame_row : (n : Now) → Busy n → (i : ℤ) (go : Framed → Act) → ((f : Framed) → CalledAt f.shown f.layer (There n) → ActFits (go f) (There n)) → ActFits (requests.with_frame n i go) (There n)
+frame_row : {w : Wanted} (n : Now) → Busy w n → (i : ℤ) (go : Framed → Act) → ((f : Framed) → CalledAt f.shown f.layer (There n) → ActFits w (go f) (There n)) → ActFits w (requests.with_frame n i go) (There n)
 frame_row n place i go k =
     level_row n place (current_level n.context) _ (λ level e.
     frame_row_in n place (requests.item_at (frames level.around) i) go
     (maybe_called (requests.item_at (frames level.around) i) (bares level.around) (There n) (subst (λ o. LevelFits o (There n)) e (level_fits n.context)) (frame_called level.around i)) k)
 
 -- what is done with a call
-call_row : (n : Now) → Busy n → (s : Shown) (k : ℕ) (a : Act) → CalledAt s k (There n) → ((1 ≤ k) × IsCall (layer_at k (There n)) → ActFits a (There n)) → ActFits (requests.if_call s a) (There n)
+call_row : {w : Wanted} (n : Now) → Busy w n → (s : Shown) (k : ℕ) (a : Act) → CalledAt s k (There n) → ((1 ≤ k) × IsCall (layer_at k (There n)) → ActFits w a (There n)) → ActFits w (requests.if_call s a) (There n)
 call_row n place (Called g vs) k a h go = go h
 call_row n place (Served form) k a h go = place
 
@@ -78,24 +79,24 @@ copied_fit (b ∷ bs) d e = one_more (requests.copied bs) b d e (copied_fit bs d
     one_more [] b d e h = (e, tt)
     one_more (p ∷ ps) b d e h = (h.0, one_more ps b (frame.On (bare_plain p) ∷ d) refl h.1)
 
-evaluates_in_row : (n : Now) → Busy n → (fs : List Placed) (kept : Sexp) (f : Framed) → ActFits (requests.evaluates_in fs kept f) (There n)
-evaluates_in_row n place fs kept f = (place, (place.busy, (refl, copied_fit (locals f) _ refl)), refl)
+evaluates_in_row : {w : Wanted} (n : Now) → Busy w n → (fs : List Placed) (kept : Sexp) (f : Framed) → ActFits w (requests.evaluates_in fs kept f) (There n)
+evaluates_in_row n place fs kept f = (place, λ s. (place.busy s, (refl, copied_fit (locals f) _ refl)), refl)
 
-evaluates_read_row : (n : Now) → Busy n → (read : Result (List Placed) Condition) (kept : Sexp) (f : Framed) → ActFits (requests.evaluates_read read kept f) (There n)
+evaluates_read_row : {w : Wanted} (n : Now) → Busy w n → (read : Result (List Placed) Condition) (kept : Sexp) (f : Framed) → ActFits w (requests.evaluates_read read kept f) (There n)
 evaluates_read_row n place read kept f = or_raise_row (There n) place read _ (λ fs. evaluates_in_row n place fs kept f)
 
-invokes_restart_row : (n : Now) → Busy n → (r : Option Restart) → ActFits (requests.invokes_restart n r) (There n)
+invokes_restart_row : {w : Wanted} (n : Now) → Busy w n → (r : Option Restart) → ActFits w (requests.invokes_restart n r) (There n)
 invokes_restart_row n place r = exits_or_row (There n) place (invoking r [] n.context) requests.nil_reply (invoking_fits r [] n.context) place
 
-invokes_place_row : (n : Now) → Busy n → (level : Level) (i : ℤ) (b : Bool) → ActFits (requests.invokes_place n level i b) (There n)
+invokes_place_row : {w : Wanted} (n : Now) → Busy w n → (level : Level) (i : ℤ) (b : Bool) → ActFits w (requests.invokes_place n level i b) (There n)
 invokes_place_row n place level i true = invokes_restart_row n place (requests.item_at (restarts_of_level level.around) i)
 invokes_place_row n place level i false = place
 
-commanded_row : (n : Now) → Busy n → (x : Command) → ActFits (requests.commanded n x) (There n)
+commanded_row : {w : Wanted} (n : Now) → Busy w n → (x : Command) → ActFits w (requests.commanded n x) (There n)
 commanded_row n place (rules_of.Answers inspected reply) = place
 commanded_row n place (rules_of.AnswersIn name reply) = place
 commanded_row n place (rules_of.Refuses condition) = place
-commanded_row n place (rules_of.Evaluates fs origin kept) = (place, (place.busy, tt), refl)
+commanded_row n place (rules_of.Evaluates fs origin kept) = (place, λ s. (place.busy s, tt), refl)
 commanded_row n place (rules_of.EvaluatesIn i read kept) = frame_row n place i (requests.evaluates_read read kept) (λ f h. evaluates_read_row n place read kept f)
 commanded_row n place (rules_of.EvaluatesToReturn i read kept) =
     frame_row n place i _ (λ f h. call_row n place f.shown f.layer (requests.evaluates_read read kept f) h (λ c. evaluates_read_row n place read kept f))
@@ -107,7 +108,7 @@ commanded_row n place (rules_of.InvokesFirst name) =
 commanded_row n place rules_of.InvokesTop = (place.layers, top_fits (There n))
 commanded_row n place rules_of.Closes = place
 
-finished_row : (n : Now) → Busy n → (v : Value) (x : Finish) → ActFits (requests.finished n v x) (There n)
+finished_row : {w : Wanted} (n : Now) → Busy w n → (v : Value) (x : Finish) → ActFits w (requests.finished n v x) (There n)
 finished_row n place v (rules_of.Replies writings inspected reply) = place
 finished_row n place v (rules_of.Fails condition) = place
 finished_row n place v (rules_of.LeavesFrame i) =
@@ -122,20 +123,20 @@ before_forms_fit : (ps : List Placed) (o : Option Origin) (d : Context) → wait
 before_forms_fit [] o d e = tt
 before_forms_fit (p ∷ ps) o d e = (e, tt)
 
-forms_row : (n : Now) → Busy n → (fs : List Placed) (o : Option Origin) → ActFits (requests.forms_row n fs o) (There n)
+forms_row : {w : Wanted} (n : Now) → Busy w n → (fs : List Placed) (o : Option Origin) → ActFits w (requests.forms_row n fs o) (There n)
 forms_row n place [] o = value_row (There n) place nil
 forms_row n place (p ∷ ps) o =
     or_refuse_row (There n) place _ (requests.resolved n p ps o) (λ found.
-    tree_row (There n) place n (parsed found.1) _ (λ e. (place, before_forms_fit ps o (There n) place.busy, placed_found_fits e (role_of (row_of e)) o p.at)))
+    tree_row (There n) place n (parsed found.1) _ (λ e. (place, λ s. before_forms_fit ps o (There n) (place.busy s), placed_found_fits e (role_of (row_of e)) o p.at)))
 
 -- ---- the table
 
-handles_row : (n : Now) → Busy n → (c : Condition) (p j : ℕ) (h : How) → (1 ≤ p) × (names_handlers p (There n) ≡ true) × HasHandlers (layer_at p (There n)) × ClauseFits h j (layer_at p (There n)) → ActFits (table.handles c p j h) (There n)
+handles_row : {w : Wanted} (n : Now) → Busy w n → (c : Condition) (p j : ℕ) (h : How) → (1 ≤ p) × (names_handlers p (There n) ≡ true) × HasHandlers (layer_at p (There n)) × ClauseFits h j (layer_at p (There n)) → ActFits w (table.handles c p j h) (There n)
 handles_row n place c p j (how.Function g) h =
-    (place, ((place.busy, h.1), ((refl, names_out p (frame.On (plain.Before (focus.SignalPast c p j))) (There n) refl h.2 h.1), tt)), refl)
+    (place, λ s. ((place.busy s, h.1), ((refl, names_out p (frame.On (plain.Before (focus.SignalPast c p j))) (There n) refl h.2 h.1), tt)), refl)
 handles_row n place c p j how.Clause h = (place.layers, (h.0, h.3))
 
-signals_row : (n : Now) → Busy n → (c : Condition) (o : Option HandlerAt) → HandlerFits o (There n) → ActFits (table.signals c o) (There n)
+signals_row : {w : Wanted} (n : Now) → Busy w n → (c : Condition) (o : Option HandlerAt) → HandlerFits o (There n) → ActFits w (table.signals c o) (There n)
 signals_row n place c None h = value_row (There n) place nil
 signals_row n place c (Some x) h = handles_row n place c x.layer x.index x.how h
 
@@ -156,23 +157,26 @@ on_busy (plain.Before g) d e h = absurd (false≢true (sym e))
 on_busy (plain.Handling p j) d e h = h.0
 on_busy p d e h = h
 
-passed_on : (p : Plain) (c : Context) → is_put_off p ≡ false → Place (bares (frame.On p ∷ c)) → Place (bares c)
-passed_on p c e place = record { layers = place.layers.1; busy = on_busy p (bares c) e place.layers.0 }
+passed_on : {w : Wanted} (p : Plain) (c : Context) → is_put_off p ≡ false → PlaceIf w (bares (frame.On p ∷ c)) → PlaceIf w (bares c)
+passed_on p c e place = record { layers = λ s. (place.layers s).1; busy = λ s. on_busy p (bares c) e (place.layers s).0 }
 
-pub given_row_fits : (rules : Rules) (n : Now) (c : Context) (o : Outcome) → Place (bares c) → ActFits (decided n (table.given_row rules c o)) (bares c)
-given_row_fits rules n (frame.On (plain.Before g) ∷ c) o place = (place.layers.1, resumes g (bares c) place.layers.0)
-given_row_fits rules n (frame.On (plain.Answer kept) ∷ c) (outcome.Value v) place =
+answered_on : {w : Wanted} (kind : Ask) (tag : ℕ) (c : Context) → PlaceIf w (bares (frame.Ask kind tag ∷ c)) → PlaceIf w (bares c)
+answered_on kind tag c place = record { layers = λ s. (place.layers s).1; busy = λ s. (place.layers s).0 }
+
+pub given_row_fits : {w : Wanted} (rules : Rules) (n : Now) (c : Context) (o : Outcome) → PlaceIf w (bares c) → w.passed o → ActFits w (decided n (table.given_row rules c o)) (bares c)
+given_row_fits rules n (frame.On (plain.Before g) ∷ c) o place said = λ s. ((place.layers s).1, resumes g (bares c) (place.layers s).0)
+given_row_fits rules n (frame.On (plain.Answer kept) ∷ c) (outcome.Value v) place said =
     finished_row (around n c) (passed_on (plain.Answer kept) c refl place) v (rules.finish (requests.asked (around n c)) kept v)
-given_row_fits rules n (frame.On p ∷ c) o place = passed_on p c refl place
-given_row_fits rules n (frame.Ask kind tag ∷ c) (outcome.Value v) place = made_row (bares c) (record { layers = place.layers.1; busy = place.layers.0 }) (table.answered kind (out-Value v))
-given_row_fits rules n (frame.Ask kind tag ∷ c) (outcome.Reply r) place = record { layers = place.layers.1; busy = place.layers.0 }
-given_row_fits rules n [] o place = place
-given_row_fits rules n (frame.Protect k cleanup ∷ c) o place = place
-given_row_fits rules n (frame.Cleanup k kept ∷ c) o place = place
-given_row_fits rules n (frame.Rex i id form ∷ c) o place = place
-given_row_fits rules n (frame.Sldb m condition again ∷ c) o place = place
+given_row_fits rules n (frame.On p ∷ c) o place said = passed_on p c refl place
+given_row_fits rules n (frame.Ask kind tag ∷ c) (outcome.Value v) place said = made_row (bares c) (answered_on kind tag c place) (table.answered kind (out-Value v))
+given_row_fits rules n (frame.Ask kind tag ∷ c) (outcome.Reply r) place said = answered_on kind tag c place
+given_row_fits rules n [] o place said = (place, said)
+given_row_fits rules n (frame.Protect k cleanup ∷ c) o place said = (place, said)
+given_row_fits rules n (frame.Cleanup k kept ∷ c) o place said = (place, said)
+given_row_fits rules n (frame.Rex i id form ∷ c) o place said = (place, said)
+given_row_fits rules n (frame.Sldb m condition again ∷ c) o place said = (place, said)
 
-defun_at_row : (n : Now) → Busy n → (a : Ast) (x : Role) (origin : Origin) (k : ℕ) → ActFits (table.defun_at n a x origin k) (There n)
+defun_at_row : {w : Wanted} (n : Now) → Busy w n → (a : Ast) (x : Role) (origin : Origin) (k : ℕ) → ActFits w (table.defun_at n a x origin k) (There n)
 defun_at_row n place a (Definition g ps) origin k = value_row (There n) place (value_of_symbol g)
 defun_at_row n place a x origin k = goes_in (There n) place (look a) (look_fits a)
 
@@ -188,27 +192,30 @@ busy_redex most focus.Abort d e h = absurd (false≢true (sym e))
 busy_redex most (focus.SignalPast condition p j) d e h = h.0
 busy_redex most g d e h = h
 
-busy_row : (rules : Rules) (n : Now) → Busy n → (g : Focus) → is_waiting g ≡ false → ActFits (table.row rules n g) (There n)
-busy_row rules n place (focus.Given o) e = given_row_fits rules n n.context o place
-busy_row rules n place (focus.Form p) e = form_by_row n place p.row p
-busy_row rules n place (focus.Loop es) e = (place, (place.busy, tt), body_fits es)
-busy_row rules n place (focus.DoTimes x i count es) e = counts_row n place x i count es (out-Value count)
-busy_row rules n place (focus.DoList x i list es) e = lists_row n place x i list es (out-Value list)
-busy_row rules n place (focus.DefunAt a origin k) e = defun_at_row n place a (role_of (row_of a)) origin k
-busy_row rules n place (focus.Apply g vs) e = call_row_fits n place g vs
-busy_row rules n place (focus.Map g list next collected) e = maps_row (There n) place g list next collected
-busy_row rules n place (focus.Wait p) e = absurd (false≢true (sym e))
-busy_row rules n place (focus.Break o) e = place
-busy_row rules n place focus.Abort e = absurd (false≢true (sym e))
-busy_row rules n place (focus.Signal c) e = signals_row n place c (find_handler c.kind (in_force n.context)) (handler_fits c.kind n.context)
-busy_row rules n place (focus.SignalPast c p j) e = signals_row n place c (find_handler c.kind (behind p j (in_force n.context))) (further_handler_fits c.kind p j n.context)
-busy_row rules n place (focus.Enter c) e = place
-busy_row rules n place (focus.Warn c) e = prints_row (There n) place (table.warning c) nil
-busy_row rules n place focus.Rpc e = commanded_row n place (rules.command (requests.asked n))
-busy_row rules n place (focus.Forms fs origin) e = forms_row n place fs origin
+busy_row : {w : Wanted} (rules : Rules) (n : Now) → Busy w n → (g : Focus) → is_waiting g ≡ false → ((o : Outcome) → g ≡ focus.Given o → w.passed o) → ActFits w (table.row rules n g) (There n)
+busy_row rules n place (focus.Given o) e said = given_row_fits rules n n.context o place (said o refl)
+busy_row rules n place (focus.Form p) e said = form_by_row n place p.row p
+busy_row rules n place (focus.Loop es) e said = (place, λ s. (place.busy s, tt), body_fits es)
+busy_row rules n place (focus.DoTimes x i count es) e said = counts_row n place x i count es (out-Value count)
+busy_row rules n place (focus.DoList x i list es) e said = lists_row n place x i list es (out-Value list)
+busy_row rules n place (focus.DefunAt a origin k) e said = defun_at_row n place a (role_of (row_of a)) origin k
+busy_row rules n place (focus.Apply g vs) e said = call_row_fits n place g vs
+busy_row rules n place (focus.Map g list next collected) e said = maps_row (There n) place g list next collected
+busy_row rules n place (focus.Wait p) e said = absurd (false≢true (sym e))
+busy_row rules n place (focus.Break o) e said = place
+busy_row rules n place focus.Abort e said = absurd (false≢true (sym e))
+busy_row rules n place (focus.Signal c) e said = signals_row n place c (find_handler c.kind (in_force n.context)) (handler_fits c.kind n.context)
+busy_row rules n place (focus.SignalPast c p j) e said = signals_row n place c (find_handler c.kind (behind p j (in_force n.context))) (further_handler_fits c.kind p j n.context)
+busy_row rules n place (focus.Enter c) e said = place
+busy_row rules n place (focus.Warn c) e said = prints_row (There n) place (table.warning c) nil
+busy_row rules n place focus.Rpc e said = commanded_row n place (rules.command (requests.asked n))
+busy_row rules n place (focus.Forms fs origin) e said = forms_row n place fs origin
 
 -- the row of a redex fits where the redex does
-pub row_fits : (rules : Rules) (n : Now) (g : Focus) → LayersFit (There n) → RedexStands n.most g (There n) → ActFits (table.row rules n g) (There n)
-row_fits rules n (focus.Wait p) h e = (h, e)
-row_fits rules n focus.Abort h e = (h, abort_fits n.context)
-row_fits rules n g h e = busy_row rules n (record { layers = h; busy = busy_redex n.most g (There n) refl e }) g refl
+pub row_wanted : (w : Wanted) (rules : Rules) (n : Now) (g : Focus) → (w.sure → LayersFit (There n)) → (w.sure → RedexStands n.most g (There n)) → ((o : Outcome) → g ≡ focus.Given o → w.passed o) → ActFits w (table.row rules n g) (There n)
+row_wanted w rules n (focus.Wait p) h e said = λ s. (h s, e s)
+row_wanted w rules n focus.Abort h e said = (h, abort_fits n.context)
+row_wanted w rules n g h e said = busy_row rules n (record { layers = h; busy = λ s. busy_redex n.most g (There n) refl (e s) }) g refl said
+
+pub row_fits : (rules : Rules) (n : Now) (g : Focus) → LayersFit (There n) → RedexStands n.most g (There n) → ActFits known (table.row rules n g) (There n)
+row_fits rules n g h e = row_wanted known rules n g (λ s. h) (λ s. e) (λ o is. tt)

@@ -20,6 +20,7 @@ use Rattle.syntax_trees.specs.declared.row.Named.{Named}
 use Rattle.syntax_trees.specs.declared.row.Named.TheVariants as named
 use Rattle.syntax_trees.specs.declared.row.Row.{Row}
 use Rattle.syntax_trees.specs.declared.row.Row.TheVariants as row
+use Rattle.term_model.specs.declared.end.End.TheVariants as end
 use Rattle.term_model.specs.declared.focus.Focus.{Focus}
 use Rattle.term_model.specs.declared.focus.Focus.TheVariants as focus
 use Rattle.term_model.specs.declared.found.Found.{Found}
@@ -203,9 +204,9 @@ ample_same k c d same a =
 -- ---- the acts of listed redexes
 
 abbrev ActSmall : ℕ → Act → Type 0
-ActSmall k (act.Goes ps x) = (length ps ≤ 2) × FoundShallow k x
+ActSmall k (act.Ends (end.Goes ps x)) = (length ps ≤ 2) × FoundShallow k x
 ActSmall k (act.Assigns x v a) = ActSmall k a
-ActSmall k (act.Gives o) = ⊥
+ActSmall k (act.Ends (end.Gives o)) = ⊥
 ActSmall k (act.Outward a) = ⊥
 ActSmall k a = Unit {0}
 
@@ -214,9 +215,9 @@ assigned_room k c a (Some d) same ample go = go d (ample_same k c d same ample)
 assigned_room k c a None same ample go = refl
 
 act_room : (k : ℕ) (c : Context) (a : Act) → Ample k c → ActSmall k a → has_room c a ≡ true
-act_room k c (act.Goes ps x) ample s = goes_room k c ps x ample s.0 s.1
+act_room k c (act.Ends (end.Goes ps x)) ample s = goes_room k c ps x ample s.0 s.1
 act_room k c (act.Assigns x v a) ample s = assigned_room k c a (with_lexical x v c) (bares-with_lexical x v c) ample (λ d h. act_room k d a h s)
-act_room k c (act.Gives o) ample s = absurd s
+act_room k c (act.Ends (end.Gives o)) ample s = absurd s
 act_room k c (act.Outward a) ample s = absurd s
 act_room k c a ample s = refl
 

@@ -9,6 +9,7 @@ use Rattle.term_model.specs.declared.frame.Frame.{Frame}
 use Rattle.term_model.specs.declared.frame.Frame.TheVariants as frame
 use Rattle.term_model.specs.declared.kept.Bring.{Bring}
 use Rattle.term_model.specs.declared.kept.Bring.TheVariants as bring
+use Rattle.term_model.specs.declared.kept.Leaving.{Leaving}
 use Rattle.term_model.specs.declared.kept.Outcome.TheVariants as outcome
 use Rattle.term_model.specs.declared.kept.Saved.TheVariants as saved
 use Rattle.term_model.specs.declared.plain.Plain.TheVariants as plain
@@ -17,7 +18,7 @@ use Rattle.term_model.specs.declared.restart.Action.TheVariants.{Give, Run}
 use Rattle.term_model.specs.declared.restart.Offer.{Offer}
 use Rattle.term_model.specs.declared.restart.Restart.{Restart}
 use Rattle.term_model.specs.Exit.{distance, leave}
-use Rattle.term_model.specs.Restarts.{Leaving, abort, abort_exit, by_action, by_layer, by_offer, find_restart, invoked, invoking, or_to_top}
+use Rattle.term_model.specs.Restarts.{abort, abort_exit, by_action, by_layer, by_offer, find_restart, invoked, invoking, or_to_top}
 use Rattle.term_model.specs.Search as sight
 use Rattle.term_model.specs.Search.{Sight, layer_at, nearest, seen}
 use Rattle.term_model.specs.Targets.{block_in, catch_in, find_block, find_catch}

@@ -1,45 +1,25 @@
--- What a row of the table says is to be done. An act without a word on requests, levels, protected forms, cleanups and questions can
--- make none of their layers.
+-- What a row of the table says is to be done: an end, with what comes before it. An end without a word on requests, levels, protected
+-- forms, cleanups and questions can make none of their layers.
 use Rattle.std.specs.Prelude.{ℕ, List}
 use Rattle.lisp_data.specs.declared.symbol.Symbol.{Symbol}
 use Rattle.lisp_data.specs.declared.value.Value.{Value}
 use Rattle.lisp_data.specs.declared.value.Condition.{Condition}
 use Rattle.rpc_messages.specs.declared.pattern.Pattern.{Pattern}
 use Rattle.syntax_trees.specs.declared.ast.Ast.{Ast}
+use Rattle.term_model.specs.declared.end.End.{End}
+use Rattle.term_model.specs.declared.end.End.TheVariants as end
 use Rattle.term_model.specs.declared.focus.Focus.{Focus}
 use Rattle.term_model.specs.declared.found.Found.{Found}
+use Rattle.term_model.specs.declared.kept.Leaving.{Leaving}
 use Rattle.term_model.specs.declared.kept.Outcome.{Outcome}
 use Rattle.term_model.specs.declared.plain.Plain.{Plain}
 use Rattle.term_model.specs.declared.question.Ask.{Ask}
-use Rattle.term_model.specs.Restarts.{Leaving}
 use Rattle.step_model.specs.Image.{ImageState}
 use Rattle.step_model.specs.Rules.{Writing}
 
 pub data Act : Type 0 where
-  -- this form stands in place of the redex, in these markers, the outermost first
-  Goes : List Plain → Found → Act
-  -- this outcome stands there
-  Gives : Outcome → Act
-  -- this condition is raised there: the handlers are searched, and then the debugger is entered
-  Raises : Condition → Act
-  -- this redex stands there, which was put off by an interrupt or by the forms before it
-  Resumes : Focus → Act
-  -- a protected form, a cleanup or a request has its outcome, which is the redex
-  Passes : Act
-  -- a form is protected by a cleanup
-  Protects : Ast → List Ast → Act
-  -- a question of this kind, with its text, is asked
-  Asks : Ask → List ℕ → Act
-  -- the debugger is entered on a condition
-  Opens : Condition → Act
-  -- the debugger is entered by an interrupt, which came upon this outcome
-  Breaks : Outcome → Act
-  -- an exit
-  Exits : Leaving → Act
-  -- a message is taken
-  Takes : Pattern → Act
-  -- the session is closed
-  Closes : Act
+  -- an end, and nothing before it
+  Ends : End → Act
   -- the layer directly around the redex, a plain one or a question, goes, and then this
   Outward : Act → Act
   -- these messages are written, and then this
@@ -52,3 +32,41 @@ pub data Act : Type 0 where
   Assigns : Symbol → Value → Act → Act
   -- the same without lexical bindings
   Sets : Symbol → Value → Act → Act
+
+-- ---- the acts that are ends alone
+
+abbrev pub Goes : List Plain → Found → Act
+Goes ps found = Ends (end.Goes ps found)
+
+abbrev pub Gives : Outcome → Act
+Gives o = Ends (end.Gives o)
+
+abbrev pub Raises : Condition → Act
+Raises condition = Ends (end.Raises condition)
+
+abbrev pub Resumes : Focus → Act
+Resumes f = Ends (end.Resumes f)
+
+abbrev pub Passes : Outcome → Act
+Passes o = Ends (end.Passes o)
+
+abbrev pub Protects : Ast → List Ast → Act
+Protects form cleanup = Ends (end.Protects form cleanup)
+
+abbrev pub Asks : Ask → List ℕ → Act
+Asks kind text = Ends (end.Asks kind text)
+
+abbrev pub Opens : Condition → Act
+Opens condition = Ends (end.Opens condition)
+
+abbrev pub Breaks : Outcome → Act
+Breaks o = Ends (end.Breaks o)
+
+abbrev pub Exits : Leaving → Act
+Exits x = Ends (end.Exits x)
+
+abbrev pub Takes : Pattern → Act
+Takes p = Ends (end.Takes p)
+
+abbrev pub Closes : Act
+Closes = Ends end.Closes

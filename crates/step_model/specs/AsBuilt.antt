@@ -1,11 +1,12 @@
 -- One step of a thread as far as the program can do it: the step of the table, or, where that isn't built, leaving by the innermost
 -- visible ABORT.
 use Rattle.std.specs.Prelude.{Bool, true, false, ◌&&◌, ◌||◌, not}
+use Rattle.term_model.specs.declared.end.End.TheVariants as end
 use Rattle.term_model.specs.declared.focus.Focus.{Focus}
 use Rattle.term_model.specs.declared.focus.Focus.TheVariants as focus
 use Rattle.term_model.specs.Breaks.{max_levels}
 use Rattle.term_model.specs.Restarts.{abort_exit}
-use Rattle.step_model.specs.Act.{Act, Raises, Exits, Outward, Writes, Changes, Inspects, Assigns, Sets}
+use Rattle.step_model.specs.Act.{Act, Ends, Exits, Outward, Writes, Changes, Inspects, Assigns, Sets}
 use Rattle.step_model.specs.Built.{Built}
 use Rattle.step_model.specs.Now.{Now}
 use Rattle.step_model.specs.Requests.{asked}
@@ -20,7 +21,7 @@ is_row_built built n f = built.has_row n.context f
 
 -- whether an act ends in raising a condition
 abbrev pub is_raise : Act → Bool
-is_raise (Raises condition) = true
+is_raise (Ends (end.Raises condition)) = true
 is_raise (Outward act) = is_raise act
 is_raise (Writes ws act) = is_raise act
 is_raise (Changes image act) = is_raise act

@@ -25,6 +25,7 @@ use Rattle.syntax_trees.specs.declared.ast.Ast.{Ast}
 use Rattle.term_model.specs.declared.focus.Focus.TheVariants as focus
 use Rattle.term_model.specs.declared.found.Found.TheVariants.{Here}
 use Rattle.term_model.specs.declared.kept.Outcome.TheVariants as outcome
+use Rattle.term_model.specs.declared.kept.Leaving.{Leaving}
 use Rattle.term_model.specs.declared.plain.Plain.{Plain}
 use Rattle.term_model.specs.declared.plain.Plain.TheVariants as plain
 use Rattle.term_model.specs.declared.question.Ask.TheVariants as question
@@ -32,7 +33,7 @@ use Rattle.term_model.specs.declared.restart.Action.TheVariants.{Give}
 use Rattle.term_model.specs.declared.restart.Offer.{Offer}
 use Rattle.lisp_data.specs.Parts.{nil, truth, yes}
 use Rattle.term_model.specs.GoingIn.{body, look}
-use Rattle.term_model.specs.Restarts.{Leaving, abort_exit, find_restart, invoking, visible}
+use Rattle.term_model.specs.Restarts.{abort_exit, find_restart, invoking, visible}
 use Rattle.term_model.specs.Variables.{dynamic}
 use Rattle.step_model.specs.declared.machine_function.MachineFunction.{MachineFunction}
 use Rattle.step_model.specs.declared.machine_function.MachineFunction.TheVariants as f

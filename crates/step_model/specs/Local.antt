@@ -3,6 +3,8 @@
 use Rattle.std.specs.Prelude.{Bool, true, false, ◌&&◌, not, is_some, List, [], ◌∷◌, Option, Some, None}
 use Rattle.std.specs.Option.{option_map_or}
 use Rattle.rpc_messages.specs.declared.pattern.Pattern.TheVariants as pattern
+use Rattle.term_model.specs.declared.end.End.{End}
+use Rattle.term_model.specs.declared.end.End.TheVariants as end
 use Rattle.term_model.specs.declared.focus.Focus.{Focus}
 use Rattle.term_model.specs.declared.focus.Focus.TheVariants as focus
 use Rattle.term_model.specs.declared.found.Found.{Found}
@@ -58,20 +60,24 @@ of_term c f = record {
 
 -- ---- what an act needs
 
--- whether an act reads and changes nothing but the term
+-- whether an end reads and changes nothing but the term
+abbrev pub ends_in_term : End → Bool
+ends_in_term (end.Goes ps found) = true
+ends_in_term (end.Gives o) = true
+ends_in_term (end.Raises condition) = false
+ends_in_term (end.Resumes f) = true
+ends_in_term (end.Passes o) = false
+ends_in_term (end.Protects e cleanup) = false
+ends_in_term (end.Asks kind text) = false
+ends_in_term (end.Opens condition) = false
+ends_in_term (end.Breaks o) = false
+ends_in_term (end.Exits x) = false
+ends_in_term (end.Takes p) = false
+ends_in_term end.Closes = false
+
+-- whether an act does
 abbrev pub is_of_term : Context → Act → Bool
-is_of_term c (act.Goes ps found) = true
-is_of_term c (act.Gives o) = true
-is_of_term c (act.Raises condition) = false
-is_of_term c (act.Resumes f) = true
-is_of_term c act.Passes = false
-is_of_term c (act.Protects e cleanup) = false
-is_of_term c (act.Asks kind text) = false
-is_of_term c (act.Opens condition) = false
-is_of_term c (act.Breaks o) = false
-is_of_term c (act.Exits x) = false
-is_of_term c (act.Takes p) = false
-is_of_term c act.Closes = false
+is_of_term c (act.Ends e) = ends_in_term e
 is_of_term c (act.Outward a) = is_of_term (outward c) a
 is_of_term c (act.Writes ws a) = false
 is_of_term c (act.Changes image a) = false
@@ -98,8 +104,8 @@ found_has_room c ps found = have_room c ps found
 
 -- whether what an act makes that needs the term alone stands within the limit of layers
 abbrev pub has_room : Context → Act → Bool
-has_room c (act.Goes ps found) = found_has_room c ps found
-has_room c (act.Gives o) = outcome_has_room c o
+has_room c (act.Ends (end.Goes ps found)) = found_has_room c ps found
+has_room c (act.Ends (end.Gives o)) = outcome_has_room c o
 has_room c (act.Outward a) = has_room (outward c) a
 has_room c (act.Assigns x v a) = option_map_or (λ d. has_room d a) (with_lexical x v c) true
 has_room c a = true

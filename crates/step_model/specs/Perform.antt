@@ -21,6 +21,8 @@ use Rattle.rpc_messages.specs.declared.to_emacs.ToEmacs.TheVariants as message
 use Rattle.syntax_trees.specs.declared.ast.Ast.{Ast}
 use Rattle.syntax_trees.specs.Places.{row_of, forms_of}
 use Rattle.lisp_data.specs.Symbols.{cl}
+use Rattle.term_model.specs.declared.end.End.{End}
+use Rattle.term_model.specs.declared.end.End.TheVariants as end
 use Rattle.term_model.specs.declared.focus.Focus.{Focus}
 use Rattle.term_model.specs.declared.focus.Focus.TheVariants as focus
 use Rattle.term_model.specs.declared.found.Found.{Found}
@@ -51,7 +53,7 @@ use Rattle.term_model.specs.Room.{is_within, levels, room, wrap}
 use Rattle.term_model.specs.Search.{layer_at}
 use Rattle.term_model.specs.Term.{Context}
 use Rattle.term_model.specs.Variables.{with_dynamic, with_lexical}
-use Rattle.step_model.specs.Act.{Act, Goes, Gives, Raises, Resumes, Passes, Protects, Asks, Opens, Breaks, Exits, Takes, Closes, Outward, Writes, Changes, Inspects, Assigns, Sets}
+use Rattle.step_model.specs.Act.{Act, Ends, Outward, Writes, Changes, Inspects, Assigns, Sets}
 use Rattle.step_model.specs.Announcing.{announcement}
 use Rattle.step_model.specs.CurrentPackage.{package_variable, binds_package, bound_package}
 use Rattle.step_model.specs.Image.{with_global}
@@ -242,11 +244,6 @@ passes n (frame.On p ∷ c) o = puts n (frame.On p ∷ c) (focus.Given o)
 passes n (frame.Ask kind tag ∷ c) o = puts n (frame.Ask kind tag ∷ c) (focus.Given o)
 passes n [] o = puts n [] (focus.Given o)
 
--- the outcome that a redex is; every other redex is none, and is never passed on
-abbrev pub outcome_of : Focus → Outcome
-outcome_of (focus.Given o) = o
-outcome_of f = outcome.Value nil
-
 -- where there is no room for a layer, a protected value still is a redex
 abbrev pub protects_value : Now → Option Value → List Ast → Now
 protects_value n (Some v) cleanup = puts (record n { serial = n.serial + 1 }) (frame.Protect n.serial cleanup ∷ n.context) (focus.Given (outcome.Value v))
@@ -330,19 +327,23 @@ assigns_or n s v None = sets n s v
 abbrev pub assigns : Now → Symbol → Value → Now
 assigns n s v = assigns_or n s v (with_lexical s v n.context)
 
+-- what an end makes of it
+abbrev pub carried : Now → End → Now
+carried n (end.Goes ps found) = goes n ps found
+carried n (end.Gives o) = gives n o
+carried n (end.Raises condition) = lays n (plain.Before (focus.Enter condition) ∷ []) (Here (focus.Signal condition))
+carried n (end.Resumes f) = puts n n.context f
+carried n (end.Passes o) = passes n n.context o
+carried n (end.Protects e cleanup) = protects n (room n.context) e cleanup
+carried n (end.Asks kind text) = asks n (room n.context) kind text
+carried n (end.Opens condition) = enters n condition
+carried n (end.Breaks o) = breaks_if (may_open n.most n.context) n o
+carried n (end.Exits x) = exits n x.target x.bring
+carried n (end.Takes p) = takes n p (first_accepted p n.mailbox)
+carried n end.Closes = record (puts n n.context focus.Rpc) { closed = true }
+
 abbrev pub perform : Now → Act → Now
-perform n (Goes ps found) = goes n ps found
-perform n (Gives o) = gives n o
-perform n (Raises condition) = lays n (plain.Before (focus.Enter condition) ∷ []) (Here (focus.Signal condition))
-perform n (Resumes f) = puts n n.context f
-perform n Passes = passes n n.context (outcome_of n.redex)
-perform n (Protects e cleanup) = protects n (room n.context) e cleanup
-perform n (Asks kind text) = asks n (room n.context) kind text
-perform n (Opens condition) = enters n condition
-perform n (Breaks o) = breaks_if (may_open n.most n.context) n o
-perform n (Exits x) = exits n x.target x.bring
-perform n (Takes p) = takes n p (first_accepted p n.mailbox)
-perform n Closes = record (puts n n.context focus.Rpc) { closed = true }
+perform n (Ends e) = carried n e
 perform n (Outward act) = perform (around n (outward n.context)) act
 perform n (Writes ws act) = perform (tells n (map written ws)) act
 perform n (Changes image act) = perform (record n { image = image }) act

@@ -86,11 +86,11 @@ given_row rules (frame.On (plain.Restarts offers) ∷ c) o = Alone (Outward (Giv
 given_row rules (frame.On (plain.Handling p j) ∷ c) o = Alone (Outward (Gives o))
 given_row rules (frame.Ask kind tag ∷ c) (outcome.Value v) = Beyond (λ n. Outward (gives_made (answered kind (out-Value v))))
 given_row rules (frame.Ask kind tag ∷ c) (outcome.Reply r) = Beyond (λ n. Outward (Gives (outcome.Reply r)))
-given_row rules (frame.Protect k cleanup ∷ c) o = Beyond (λ n. Passes)
-given_row rules (frame.Cleanup k kept ∷ c) o = Beyond (λ n. Passes)
-given_row rules (frame.Rex at id form ∷ c) o = Beyond (λ n. Passes)
-given_row rules (frame.Sldb level condition again ∷ c) o = Beyond (λ n. Passes)
-given_row rules [] o = Beyond (λ n. Passes)
+given_row rules (frame.Protect k cleanup ∷ c) o = Beyond (λ n. Passes o)
+given_row rules (frame.Cleanup k kept ∷ c) o = Beyond (λ n. Passes o)
+given_row rules (frame.Rex at id form ∷ c) o = Beyond (λ n. Passes o)
+given_row rules (frame.Sldb level condition again ∷ c) o = Beyond (λ n. Passes o)
+given_row rules [] o = Beyond (λ n. Passes o)
 
 -- a node with a place: only a function's definition keeps it
 abbrev pub defun_at : Now → Ast → Role → Origin → ℕ → Act

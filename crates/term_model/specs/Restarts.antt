@@ -9,6 +9,7 @@ use Rattle.term_model.specs.declared.frame.Frame.{Frame}
 use Rattle.term_model.specs.declared.frame.Frame.TheVariants as frame
 use Rattle.term_model.specs.declared.kept.Bring.{Bring}
 use Rattle.term_model.specs.declared.kept.Bring.TheVariants as bring
+use Rattle.term_model.specs.declared.kept.Leaving.{Leaving}
 use Rattle.term_model.specs.declared.kept.Outcome.{Outcome}
 use Rattle.term_model.specs.declared.kept.Outcome.TheVariants as outcome
 use Rattle.term_model.specs.declared.plain.Plain.TheVariants as plain
@@ -63,11 +64,6 @@ first_named name (r ∷ rs) = if same_symbol r.name name then Some r else first_
 -- the innermost visible restart of a name
 abbrev pub find_restart : Symbol → Context → Option Restart
 find_restart name c = first_named name (visible c)
-
--- an exit: the number of its target, and what it brings there
-pub record Leaving : Type 0 where
-  pub target : ℕ
-  pub bring : Bring
 
 abbrev pub brings : Outcome → Bring
 brings (outcome.Value v) = bring.Value v

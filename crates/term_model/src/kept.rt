@@ -20,6 +20,13 @@ pub enum Bring {
     Nothing,
 }
 
+/// An exit: the number of its target, and what it brings there.
+#[derive(Drop)]
+pub struct Leaving {
+    pub target: u64,
+    pub bring: Bring,
+}
+
 /// What a cleanup keeps while it is at work: the outcome of its protected form, or the exit that left that form.
 #[derive(Drop)]
 pub enum Saved {
