@@ -1,62 +1,43 @@
 -- Only a step on a reply ends a request with a reply, and with that one.
-use Rattle.std.proofs.Common.{◌≡◌, ℕ, zero, suc, ◌+◌, Bool, true, false, List, [], ◌∷◌, ◌++◌, map, Option, Some, None}
-use Rattle.std.specs.Prelude.{slice_get}
-use Rattle.lisp_data.specs.declared.sexp.Sexp.TheViews.{out-Sexp}
+use Rattle.std.proofs.Common.{◌≡◌, ℕ, zero, suc, ◌+◌, Bool, true, false, List, [], ◌∷◌, ◌++◌, map, Option, Some, None, subst}
 use Rattle.lisp_data.specs.declared.symbol.Symbol.{Symbol}
 use Rattle.lisp_data.specs.declared.value.Value.{Value}
-use Rattle.lisp_data.specs.declared.value.Value as value
 use Rattle.lisp_data.specs.declared.value.Condition.{Condition}
-use Rattle.mailboxes.specs.Mail.{first_accepted}
-use Rattle.rpc_messages.specs.declared.from_emacs.FromEmacs.{FromEmacs}
-use Rattle.rpc_messages.specs.declared.from_emacs.FromEmacs.TheVariants as mail
 use Rattle.rpc_messages.specs.declared.pattern.Pattern.{Pattern}
 use Rattle.rpc_messages.specs.declared.pattern.Pattern.TheVariants as pattern
-use Rattle.syntax_trees.specs.declared.ast.Ast.{Ast}
 use Rattle.term_model.specs.declared.end.End.{End}
 use Rattle.term_model.specs.declared.end.End.TheVariants as end
 use Rattle.term_model.specs.declared.focus.Focus.{Focus}
 use Rattle.term_model.specs.declared.focus.Focus.TheVariants as focus
 use Rattle.term_model.specs.declared.found.Found.{Found}
-use Rattle.term_model.specs.declared.found.Found.TheVariants.{Already, Here, Inside}
 use Rattle.term_model.specs.declared.frame.Frame.{Frame}
 use Rattle.term_model.specs.declared.frame.Frame.TheVariants as frame
 use Rattle.term_model.specs.declared.kept.Bring.{Bring}
-use Rattle.term_model.specs.declared.kept.Bring.TheVariants as bring
 use Rattle.term_model.specs.declared.kept.Outcome.{Outcome}
-use Rattle.term_model.specs.declared.kept.Outcome.TheVariants as outcome
 use Rattle.term_model.specs.declared.kept.Saved.{Saved}
 use Rattle.term_model.specs.declared.kept.Saved.TheVariants as saved
-use Rattle.term_model.specs.declared.plain.Cluster.TheVariants.{Clauses}
 use Rattle.term_model.specs.declared.plain.Plain.{Plain}
-use Rattle.term_model.specs.declared.plain.Plain.TheVariants as plain
-use Rattle.term_model.specs.declared.question.Ask.{Ask}
 use Rattle.term_model.specs.declared.question.Ask.TheVariants as question
 use Rattle.rpc_messages.specs.declared.to_emacs.Returned.TheVariants as returned
 use Rattle.rpc_messages.specs.declared.to_emacs.ToEmacs.TheVariants as message
 use Rattle.lisp_errors.specs.Causes.{stack_exhausted}
 use Rattle.step_model.specs.Announcing.{announcement}
 use Rattle.session_laws.specs.EndsWithItsReply.{EndsOnly, EndsWithItsReply}
-use Rattle.term_model.specs.declared.restart.Action.{Action}
-use Rattle.term_model.specs.declared.restart.Action.TheVariants.{Give, Run}
-use Rattle.term_model.specs.declared.restart.Offer.{Offer}
 use Rattle.term_model.specs.Breaks.{may_open}
 use Rattle.term_model.specs.Exit.{distance, dropped, leave}
 use Rattle.term_model.specs.Label.{Label, Routed, Took, Ended, Swept, Refused, Out, Opened, Closed, Cleanup, Broke}
-use Rattle.lisp_data.specs.Parts.{nil}
-use Rattle.term_model.specs.GoingIn.{body, look, resumed, value_in}
-use Rattle.term_model.specs.Restarts.{abort_exit}
 use Rattle.term_model.specs.Room.{is_within, levels, room, wrap}
 use Rattle.term_model.specs.Search.{layer_at}
 use Rattle.term_model.specs.Term.{Context}
 use Rattle.term_model.specs.Variables.{with_dynamic, with_lexical}
 use Rattle.step_model.specs.Act as act
 use Rattle.step_model.specs.Act.{Act}
-use Rattle.step_model.specs.CurrentPackage.{binds_package, bound_package}
 use Rattle.step_model.specs.Facts.{bares}
 use Rattle.step_model.specs.Now.{Now, around, tells}
-use Rattle.step_model.specs.Perform.{carried, asking, continuing, interrupted, opens, after_leaving, answer_in, asks, assigns, assigns_or, breaks_if, brings, calls_again, cut_off, enters_if, exhausted_if, exits, finishes, given, gives, gives_in, goes, laid, lands, lays, lays_if, outward, package_bound, passes, perform, protects, protects_value, runs_action, runs_clause, runs_handler, runs_offer, sets, sets_or, takes, took, turned, written}
+use Rattle.step_model.specs.Perform.{offering, carried, asking, interrupted, opens, after_leaving, assigns, assigns_or, cut_off, exhausted_if, laid, lays, lays_if, outward, perform, sets, sets_or, took, written}
 use Rattle.step_model.specs.Rules.{Rules, Writing, Output, NewPackage}
 use Rattle.step_model.proofs.AsBuiltLemmas.{either_way}
+use Rattle.step_model.proofs.Carrying.{Carries, Free, carries, free, free_asks, free_lands, landing, left_by}
 use Rattle.step_model.proofs.PerformFits.{ActFits, EndFits, Wanted}
 use Rattle.step_model.proofs.RowFits.{row_wanted}
 use Rattle.step_model.proofs.TargetFits.{abort_fits}
@@ -125,111 +106,47 @@ lays_if_says g n false ps found h = exhausted_says g (around n (cut_off n.contex
 lays_says : (g : Focus) (n : Now) (ps : List Plain) (found : Found) → Says g n → Says g (lays n ps found)
 lays_says g n ps found h = lays_if_says g n (is_within n.context) ps found h
 
-given_says : (g : Focus) (n : Now) (p : Plain) (c : Context) (v : Value) (o : Option Found) → Says g n → Says g (given n p c v o)
-given_says g n p c v (Some found) h = lays_says g (around n c) [] found h
-given_says g n p c v None h = h
+abbrev says : Focus → Free
+says g = record { calm = Says g; stands = Says g; done = Says g; passed = λ o. g ≡ focus.Given o }
 
-gives_in_says : (g : Focus) (n : Now) (c : Context) (o : Outcome) → Says g n → Says g (gives_in n c o)
-gives_in_says g n (frame.On p ∷ c) (outcome.Value v) h = given_says g n p c v (resumed p v) h
-gives_in_says g n c o h = h
-
-gives_says : (g : Focus) (n : Now) (o : Outcome) → Says g n → Says g (gives n o)
-gives_says g n o h = gives_in_says g n n.context o h
-
-goes_says : (g : Focus) (n : Now) (ps : List Plain) (found : Found) → Says g n → Says g (goes n ps found)
-goes_says g n [] (Already v) h = gives_says g n (outcome.Value v) h
-goes_says g n [] (Here f) h = lays_says g n [] (Here f) h
-goes_says g n [] (Inside p e) h = lays_says g n [] (Inside p e) h
-goes_says g n (p ∷ ps) found h = lays_says g n (p ∷ ps) found h
-
--- ---- exits
-
-runs_handler_says : (g : Focus) (n : Now) (clause : Option Ast) (vs : List Value) → Says g n → Says g (runs_handler n clause vs)
-runs_handler_says g n None vs h = goes_says g n [] (Already nil) h
-runs_handler_says g n (Some clause) vs h = goes_says g n _ _ h
-
-runs_action_says : (g : Focus) (n : Now) (action : Action) (vs : List Value) → Says g n → Says g (runs_action n action vs)
-runs_action_says g n (Give o) vs h = gives_says g n o h
-runs_action_says g n (Run clause) vs h = goes_says g n _ _ h
-
-runs_offer_says : (g : Focus) (n : Now) (offer : Option Offer) (vs : List Value) → Says g n → Says g (runs_offer n offer vs)
-runs_offer_says g n None vs h = goes_says g n [] (Already nil) h
-runs_offer_says g n (Some offer) vs h = runs_action_says g n offer.action vs h
-
-runs_clause_says : (g : Focus) (n : Now) (target : Option Frame) (i : ℕ) (vs : List Value) → Says g n → Says g (runs_clause n target i vs)
-runs_clause_says g n (Some (frame.On (plain.Handlers (Clauses clauses)))) i vs h = runs_handler_says g n (slice_get clauses i) vs h
-runs_clause_says g n (Some (frame.On (plain.Restarts offers))) i vs h = runs_offer_says g n (slice_get offers i) vs h
-runs_clause_says g n target i vs h = goes_says g n [] (Already nil) h
-
-calls_again_says : (g : Focus) (n : Now) (target : Option Frame) → Says g n → Says g (calls_again n target)
-calls_again_says g n (Some (frame.On (plain.Call f vs))) h = goes_says g n [] (Here (focus.Apply f vs)) h
-calls_again_says g n target h = goes_says g n [] (Already nil) h
-
-brings_says : (g : Focus) (n : Now) (b : Bring) (target : Option Frame) → Says g n → Says g (brings n b target)
-brings_says g n (bring.Value v) target h = gives_says g n (outcome.Value v) h
-brings_says g n (bring.Reply r) target h = gives_says g n (outcome.Reply r) h
-brings_says g n (bring.Clause i vs) target h = runs_clause_says g n target i vs h
-brings_says g n bring.Call target h = calls_again_says g n target h
-brings_says g n bring.Nothing target h = h
-
-lands_says : (g : Focus) (n : Now) (b : Bring) (target : Option Frame) (todo : Option (List Ast)) → Says g n → Says g (lands n b target todo)
-lands_says g n b target (Some cleanup) h = goes_says g n [] (body cleanup) h
-lands_says g n b target None h = brings_says g n b target h
-
-exits_says : (g : Focus) (n : Now) (target : ℕ) (b : Bring) → Says g n → Says g (exits n target b)
-exits_says g n target b h =
-    let left = leave n.thread (saved.Exit target b) (distance target n.context) n.context in
-    lands_says g (after_leaving n left) b (layer_at target n.context) left.todo (more g n.labels left.labels h (leave_says g n.thread (saved.Exit target b) (distance target n.context) n.context))
-
--- ---- acts
-
-enters_says : (g : Focus) (n : Now) (b : Bool) (condition : Condition) → Says g n → Says g (enters_if b n condition)
-enters_says g n true condition h = opens_says g n condition h
-enters_says g n false condition h = let x = abort_exit n.context in exits_says g n x.target x.bring h
-
-breaks_says : (g : Focus) (n : Now) (b : Bool) (o : Outcome) → Says g n → Says g (breaks_if b n o)
-breaks_says g n true o h = opens_says g (around n (frame.On (plain.Restarts (continuing o ∷ [])) ∷ n.context)) interrupted h
-breaks_says g n false o h = let x = abort_exit n.context in exits_says g n x.target x.bring h
-
-finishes_says : (g : Focus) (n : Now) (kept : Saved) → Says g n → Says g (finishes n kept)
-finishes_says g n (saved.Kept o) h = gives_says g n o h
-finishes_says g n (saved.Exit target b) h = exits_says g n target b h
-
-passes_says : (g : Focus) (n : Now) (c : Context) (o : Outcome) → g ≡ focus.Given o → Says g n → Says g (passes n c o)
-passes_says g n [] o e h = h
-passes_says g n (frame.On p ∷ c) o e h = h
-passes_says g n (frame.Protect k cleanup ∷ c) o e h = goes_says g (turned n k o c) [] (body cleanup) (more g n.labels (Cleanup n.thread k ∷ []) h tt)
-passes_says g n (frame.Cleanup k kept ∷ c) o e h = finishes_says g (around n c) kept h
-passes_says g n (frame.Rex i id form ∷ c) (outcome.Reply r) e h =
-    more g n.labels (Ended n.thread i (returned.Ok r) ∷ Out (message.Return id (returned.Ok r)) ∷ []) h (e, tt)
-passes_says g n (frame.Rex i id form ∷ c) (outcome.Value v) e h = h
-passes_says g n (frame.Sldb m condition again ∷ c) o e h = h
-passes_says g n (frame.Ask kind tag ∷ c) o e h = h
-
-protects_value_says : (g : Focus) (n : Now) (o : Option Value) (cleanup : List Ast) → Says g n → Says g (protects_value n o cleanup)
-protects_value_says g n (Some v) cleanup h = h
-protects_value_says g n None cleanup h = exhausted_says g n (may_open n.most n.context) h
-
-protects_says : (g : Focus) (n : Now) (space : ℕ) (e : Ast) (cleanup : List Ast) → Says g n → Says g (protects n space e cleanup)
-protects_says g n zero e cleanup h = protects_value_says g n (value_in e) cleanup h
-protects_says g n (suc space) e cleanup h =
-    goes_says g (around (record n { serial = n.serial + 1 }) (frame.Protect n.serial cleanup ∷ n.context)) [] (look e) h
-
-asks_says : (g : Focus) (n : Now) (space : ℕ) (kind : Ask) (text : List ℕ) → Says g n → Says g (asks n space kind text)
-asks_says g n zero kind text h = exhausted_says g n (may_open n.most n.context) h
-asks_says g n (suc space) kind text h = more g n.labels (Out (asking kind n.thread n.tag text) ∷ []) h tt
+left_says : (g : Focus) (n : Now) (target : ℕ) (b : Bring) → Says g n → Says g (after_leaving n (left_by n target b))
+left_says g n target b h = more g n.labels (left_by n target b).labels h (leave_says g n.thread (saved.Exit target b) (distance target n.context) n.context)
 
 took_says : (g : Focus) (n : Now) (p : Pattern) (i : ℕ) → Says g n → Says g (took n p i)
 took_says g n p i h = more g n.labels (Took n.thread i p ∷ []) h tt
 
-takes_says : (g : Focus) (n : Now) (p : Pattern) (o : Option (ℕ × FromEmacs)) → Says g n → Says g (takes n p o)
-takes_says g n p None h = h
-takes_says g n p (Some (i, mail.Rex form package' thread id)) h =
-    lays_says g (around (took n p i) (frame.Rex i id form ∷ n.context)) (package_bound (binds_package form) (bound_package n.image package')) (Here focus.Rpc) (took_says g n p i h)
-takes_says g n p (Some (i, mail.ReturnString thread tag text)) h = gives_says g (took n p i) (outcome.Value (value.Str text)) (took_says g n p i h)
-takes_says g n p (Some (i, mail.Return thread tag form)) h = gives_says g (took n p i) (outcome.Value (answer_in (out-Sexp form))) (took_says g n p i h)
-takes_says g n p (Some (i, mail.Interrupt thread)) h = took_says g n p i h
-takes_says g n p (Some (i, mail.Unreadable packet text)) h = took_says g n p i h
+carries_says : (g : Focus) → Carries (free (says g))
+carries_says g = record {
+  passes = λ n h. h;
+  redex = λ n h. h;
+  place = λ n h. h;
+  value = λ v. tt;
+  bare = λ n. tt;
+  whole = λ es. tt;
+  part = λ e. tt;
+  gives = λ n o h. h.0;
+  lays = λ n ps found h. lays_says g n ps found h.0;
+  resumes = λ n q c v found e h. (h, tt);
+  exits = λ n target b h.
+      let left = left_says g n target b h in
+      free_lands (says g) (after_leaving n (left_by n target b)) (landing b (layer_at target n.context) (left_by n target b).todo) left left;
+  aborts = λ n h. h;
+  debugs = λ n condition e h. opens_says g n condition h;
+  breaks = λ n o e h f. opens_says g (offering n o) interrupted h;
+  exhausts = λ n h. exhausted_says g n (may_open n.most n.context) h;
+  turns = λ n i cleanup c o h f. more g n.labels (Cleanup n.thread i ∷ []) h tt;
+  keeps = λ n i c o h. (h, tt);
+  leaves = λ n i c target b h. h;
+  replies = λ n at id form c r h f e. more g n.labels (Ended n.thread at (returned.Ok r) ∷ Out (message.Return id (returned.Ok r)) ∷ []) h (e, tt);
+  protects = λ n space cleanup e h. h;
+  protects_value = λ n v cleanup h. h;
+  asks = λ n space kind text e h. more g n.labels (Out (asking kind n.thread n.tag text) ∷ []) h tt;
+  closes = λ n h. h;
+  waits = λ n q h. h;
+  begins = λ n q i form package' thread id e h. (took_says g n q i h, tt, tt);
+  answers = λ n q i m e a h. took_says g n q i h;
+  hears = λ n q i m e a h. took_says g n q i h;
+}
 
 sets_says : (g : Focus) (n : Now) (x : Symbol) (v : Value) (o : Option Context) → Says g n → Says g (sets_or n x v o)
 sets_says g n x v (Some c) h = h
@@ -243,19 +160,12 @@ assigns_says g n x v None h = sets_says g n x v (with_dynamic x v n.context) h
 abbrev saying : Focus → Wanted
 saying g = record { sure = ⊥; passed = λ o. g ≡ focus.Given o }
 
+-- what an act asks but for its place
+passed_on : (g : Focus) (d : Context) (e : End) (o : Outcome) → EndFits (saying g) e d → e ≡ end.Passes o → g ≡ focus.Given o
+passed_on g d e o f is = let k : EndFits (saying g) (end.Passes o) d = subst (λ x. EndFits (saying g) x d) is f in k.1
+
 end_says : (g : Focus) (n : Now) (d : Context) (e : End) → EndFits (saying g) e d → Says g n → Says g (carried n e)
-end_says g n d (end.Goes ps found) f h = goes_says g n ps found h
-end_says g n d (end.Gives o) f h = gives_says g n o h
-end_says g n d (end.Raises condition) f h = lays_says g n (plain.Before (focus.Enter condition) ∷ []) (Here (focus.Signal condition)) h
-end_says g n d (end.Resumes r) f h = h
-end_says g n d (end.Passes o) f h = passes_says g n n.context o f.1 h
-end_says g n d (end.Protects form cleanup) f h = protects_says g n (room n.context) form cleanup h
-end_says g n d (end.Asks kind text) f h = asks_says g n (room n.context) kind text h
-end_says g n d (end.Opens condition) f h = enters_says g n (may_open n.most n.context) condition h
-end_says g n d (end.Breaks o) f h = breaks_says g n (may_open n.most n.context) o h
-end_says g n d (end.Exits x) f h = exits_says g n x.target x.bring h
-end_says g n d (end.Takes p) f h = takes_says g n p (first_accepted p n.mailbox) h
-end_says g n d end.Closes f h = h
+end_says g n d e f h = carries (free (says g)) (carries_says g) n e (free_asks (says g) n e (λ k. k) (λ x k. k) (λ o is. passed_on g d e o f is) h)
 
 perform_says : (g : Focus) (n : Now) (d : Context) (a : Act) → ActFits (saying g) a d → Says g n → Says g (perform n a)
 perform_says g n d (act.Ends e) f h = end_says g n d e f h

@@ -6,12 +6,10 @@ use Rattle.lisp_data.specs.declared.value.Value.{Value}
 use Rattle.syntax_trees.specs.declared.ast.Ast.{Ast}
 use Rattle.term_model.specs.declared.focus.Focus.{Focus}
 use Rattle.term_model.specs.declared.focus.Focus.TheVariants as focus
-use Rattle.term_model.specs.declared.found.Found.TheVariants.{Already, Here}
 use Rattle.term_model.specs.declared.frame.Frame.{Frame}
 use Rattle.term_model.specs.declared.frame.Frame.TheVariants as frame
 use Rattle.term_model.specs.declared.kept.Bring.{Bring}
 use Rattle.term_model.specs.declared.kept.Bring.TheVariants as bring
-use Rattle.term_model.specs.declared.kept.Outcome.TheVariants as outcome
 use Rattle.term_model.specs.declared.kept.Saved.TheVariants as saved
 use Rattle.term_model.specs.declared.plain.Cluster.TheVariants.{Clauses}
 use Rattle.term_model.specs.declared.plain.Plain.TheVariants as plain
@@ -19,17 +17,17 @@ use Rattle.term_model.specs.declared.restart.Action.{Action}
 use Rattle.term_model.specs.declared.restart.Action.TheVariants.{Give, Run}
 use Rattle.term_model.specs.declared.restart.Offer.{Offer}
 use Rattle.term_model.specs.Exit.{distance, leave, stir}
-use Rattle.lisp_data.specs.Parts.{nil}
-use Rattle.term_model.specs.GoingIn.{body}
 use Rattle.term_model.specs.Room.{layers, levels, limit}
 use Rattle.term_model.specs.Search.{layer_at}
 use Rattle.term_model.specs.Term.{Context}
-use Rattle.step_model.specs.Facts.{HasClause, IsCall, IsRequest, TakesValue, TargetFits, bare, bares}
+use Rattle.step_model.specs.Facts.{FocusFits, HasClause, IsCall, IsRequest, TakesValue, TargetFits, bare, bares}
 use Rattle.step_model.specs.Now.{Now}
-use Rattle.step_model.specs.Perform.{after_leaving, brings, calls_again, exits, goes, lands, runs_action, runs_clause, runs_handler, runs_offer}
+use Rattle.step_model.specs.Perform.{after_leaving}
 use Rattle.step_model.specs.Rooms.{BrokenRoom, LayerRoom, LayersRoom, extra, is_giving, is_offering, number_if}
 use Rattle.step_model.proofs.BareLemmas.{bares-stir, length-bares}
-use Rattle.step_model.proofs.RoomLemmas.{Roomy, cushion, gives_room, goes_room, limit-least}
+use Rattle.step_model.proofs.Carrying.{Lands, Property, landing, left_by, nothing, of_action, of_bring, of_call, of_handler, of_offer, of_target}
+use Rattle.step_model.proofs.FitLemmas.{Place}
+use Rattle.step_model.proofs.RoomLemmas.{Inner, Roomy, cushion, limit-least}
 use Rattle.step_model.proofs.TargetFits.{inside_context, layer_at-bares, layer_here, layer_none, layer_past, target_past}
 
 -- how far past the limit any context may be
@@ -180,26 +178,44 @@ leave_room t target (suc d) b o (frame.Sldb m condition again ∷ c) e h g k =
 leave_room t target (suc d) b o (frame.Ask kind tag ∷ c) e h g k =
     leave_room t target d b o c (omega arith) h.1 (bounded_next (frame.Ask kind tag) (bares c) h.0 g) (leads_room_next target d b o (frame.Ask kind tag) c e k g)
 
+-- ---- a property of threads whose layers are within their limit
+
+-- such layers, as far past the limit as this
+abbrev Past : ℕ → Now → Type 0
+Past k n = LayersRoom (bares n.context) × (layers (bares n.context) ≤ limit (levels (bares n.context)) + k)
+
+abbrev pub rooms : Property
+rooms = record {
+  inner = λ n. Place (bares n.context) × Inner (bares n.context);
+  passing = λ n. Place (bares n.context) × Past 1 n;
+  stands = λ n. Past (cushion (bares n.context)) n;
+  holds = Past 1;
+  done = Roomy;
+  markers = λ ps n. Unit {0};
+  form = λ found. Unit {0};
+  outcome = λ o. Unit {0};
+  passed = λ o. Unit {0};
+  exit = λ target b n. LayersRoom (bares n.context) × Bounded (bares n.context) × TargetFits target b (bares n.context);
+  waiting = λ q n. FocusFits (focus.Wait q) (bares n.context) × Inner (bares n.context);
+}
+
 -- ---- landing
 
-handler_room : (n : Now) (clause : Option Ast) (vs : List Value) → LayersRoom (bares n.context) → layers (bares n.context) ≤ limit (levels (bares n.context)) → Roomy (runs_handler n clause vs)
-handler_room n None vs h g = goes_room n [] (Already nil) h (omega arith)
-handler_room n (Some clause) vs h g = goes_room n _ _ h (omega arith)
+handler_lands : (n : Now) (clause : Option Ast) (vs : List Value) → Past 0 n → Lands rooms (of_handler clause vs) n
+handler_lands n None vs h = ((h.0, omega (arith, h.1)), tt)
+handler_lands n (Some clause) vs h = ((h.0, omega (arith, h.1)), tt, tt)
 
-nil_room : (n : Now) → LayersRoom (bares n.context) → layers (bares n.context) ≤ limit (levels (bares n.context)) + 1 → Roomy (goes n [] (Already nil))
-nil_room n h g = gives_room n (outcome.Value nil) h g
-
-action_room : (n : Now) (a : Action) (vs : List Value) → LayersRoom (bares n.context) → layers (bares n.context) ≤ limit (levels (bares n.context)) + number_if 1 (is_giving a) → Roomy (runs_action n a vs)
-action_room n (Give o) vs h g = gives_room n o h g
-action_room n (Run clause) vs h g = goes_room n _ _ h (omega arith)
+action_lands : (n : Now) (a : Action) (vs : List Value) → Past (number_if 1 (is_giving a)) n → Lands rooms (of_action a vs) n
+action_lands n (Give o) vs h = (h, tt)
+action_lands n (Run clause) vs h = ((h.0, omega (arith, h.1)), tt, tt)
 
 abbrev offer_spare : Option Offer → ℕ
 offer_spare None = 1
 offer_spare (Some offer) = number_if 1 (is_giving offer.action)
 
-offer_room : (n : Now) (o : Option Offer) (vs : List Value) → LayersRoom (bares n.context) → layers (bares n.context) ≤ limit (levels (bares n.context)) + offer_spare o → Roomy (runs_offer n o vs)
-offer_room n None vs h g = nil_room n h g
-offer_room n (Some offer) vs h g = action_room n offer.action vs h g
+offer_lands : (n : Now) (o : Option Offer) (vs : List Value) → Past (offer_spare o) n → Lands rooms (of_offer o vs) n
+offer_lands n None vs h = (h, tt)
+offer_lands n (Some offer) vs h = action_lands n offer.action vs h
 
 -- the offer that is chosen from a layer
 chosen : (offers : List Offer) (i : ℕ) → spare (Some (frame.On (plain.Restarts offers))) ≤ offer_spare (slice_get offers i)
@@ -208,14 +224,18 @@ chosen (o ∷ []) zero = omega arith
 chosen (o ∷ []) (suc i) = at_most_one (is_giving o.action)
 chosen (o ∷ p ∷ os) i = omega arith
 
-clause_room : (n : Now) (raw : Option Frame) (i : ℕ) (vs : List Value) → LayersRoom (bares n.context) → layers (bares n.context) ≤ limit (levels (bares n.context)) + spare (option_map bare raw) → Roomy (runs_clause n raw i vs)
-clause_room n (Some (frame.On (plain.Handlers (Clauses clauses)))) i vs h g = handler_room n (slice_get clauses i) vs h (omega arith)
-clause_room n (Some (frame.On (plain.Restarts offers))) i vs h g = offer_room n (slice_get offers i) vs h (omega (arith, chosen offers i))
-clause_room n raw i vs h g = nil_room n h (omega (arith, few_spare (option_map bare raw)))
+-- NIL takes the target's place
+nil_lands : (n : Now) (raw : Option Frame) → Past (spare (option_map bare raw)) n → Lands rooms nothing n
+nil_lands n raw h = ((h.0, omega (arith, h.1, few_spare (option_map bare raw))), tt)
 
-call_room : (n : Now) (raw : Option Frame) → LayersRoom (bares n.context) → layers (bares n.context) ≤ limit (levels (bares n.context)) + spare (option_map bare raw) → Roomy (calls_again n raw)
-call_room n (Some (frame.On (plain.Call f vs))) h g = goes_room n [] (Here (focus.Apply f vs)) h (omega arith)
-call_room n raw h g = nil_room n h (omega (arith, few_spare (option_map bare raw)))
+target_lands : (n : Now) (raw : Option Frame) (i : ℕ) (vs : List Value) → Past (spare (option_map bare raw)) n → Lands rooms (of_target raw i vs) n
+target_lands n (Some (frame.On (plain.Handlers (Clauses clauses)))) i vs h = handler_lands n (slice_get clauses i) vs h
+target_lands n (Some (frame.On (plain.Restarts offers))) i vs h = offer_lands n (slice_get offers i) vs (h.0, omega (arith, h.1, chosen offers i))
+target_lands n raw i vs h = nil_lands n raw h
+
+call_lands : (n : Now) (raw : Option Frame) → Past (spare (option_map bare raw)) n → Lands rooms (of_call raw) n
+call_lands n (Some (frame.On (plain.Call f vs))) h = ((h.0, omega (arith, h.1)), tt, tt)
+call_lands n raw h = nil_lands n raw h
 
 request_spare : (o : Option Frame) → IsRequest o → spare o ≡ 0
 request_spare None h = refl
@@ -243,16 +263,16 @@ nothing_spare target (bring.Reply r) d h = tt
 nothing_spare target (bring.Clause i vs) d h = tt
 nothing_spare target bring.Call d h = tt
 
-brings_room : (n : Now) (b : Bring) (raw : Option Frame) → NothingSpare b (option_map bare raw) → LayersRoom (bares n.context) → layers (bares n.context) ≤ limit (levels (bares n.context)) + spare (option_map bare raw) → Roomy (brings n b raw)
-brings_room n (bring.Value v) raw e h g = gives_room n (outcome.Value v) h (omega (arith, few_spare (option_map bare raw)))
-brings_room n (bring.Reply r) raw e h g = gives_room n (outcome.Reply r) h (omega (arith, few_spare (option_map bare raw)))
-brings_room n (bring.Clause i vs) raw e h g = clause_room n raw i vs h g
-brings_room n bring.Call raw e h g = call_room n raw h g
-brings_room n bring.Nothing raw e h g = record { layers = h; redex = omega (arith, e) }
+brings_lands : (n : Now) (b : Bring) (raw : Option Frame) → NothingSpare b (option_map bare raw) → Past (spare (option_map bare raw)) n → Lands rooms (of_bring b raw) n
+brings_lands n (bring.Value v) raw e h = nil_lands n raw h
+brings_lands n (bring.Reply r) raw e h = nil_lands n raw h
+brings_lands n (bring.Clause i vs) raw e h = target_lands n raw i vs h
+brings_lands n bring.Call raw e h = call_lands n raw h
+brings_lands n bring.Nothing raw e h = record { layers = h.0; redex = omega (arith, e, h.1) }
 
-lands_room : (n : Now) (b : Bring) (raw : Option Frame) (todo : Option (List Ast)) → NothingSpare b (option_map bare raw) → LayersRoom (bares n.context) → TodoRoom todo (option_map bare raw) (bares n.context) → Roomy (lands n b raw todo)
-lands_room n b raw (Some cleanup) e h g = goes_room n [] (body cleanup) h g
-lands_room n b raw None e h g = brings_room n b raw e h g
+lands_there : (n : Now) (b : Bring) (raw : Option Frame) (todo : Option (List Ast)) → NothingSpare b (option_map bare raw) → LayersRoom (bares n.context) → TodoRoom todo (option_map bare raw) (bares n.context) → Lands rooms (landing b raw todo) n
+lands_there n b raw (Some cleanup) e h g = ((h, g), tt, tt)
+lands_there n b raw None e h g = brings_lands n b raw e (h, g)
 
 leads_room_first : (target d : ℕ) (b : Bring) (c : Context) → d + (target - 1) ≡ length c → TargetFits target b (bares c) → LeadsRoom d target b (layer_at target (bares c)) c
 leads_room_first target (suc d) b c e g = (refl, g)
@@ -271,16 +291,17 @@ leads_room_first target zero b c e g = top target b c e g
         (λ (z : target ≡ 0). let none : length (bares c) ≡ 0 = omega (arith, length-bares c) in let k : layers (bares c) ≤ limit (levels (bares c)) = alone_layers (bares c) none in omega arith)
         (λ (r : (1 ≤ target) × IsRequest (layer_at target (bares c))). absurd (subst IsRequest (beyond_room target c (omega (arith, r.0, length-bares c))) r.1)) g
 
-pub exits_room : (n : Now) (target : ℕ) (b : Bring) → LayersRoom (bares n.context) → Bounded (bares n.context) → TargetFits target b (bares n.context) → Roomy (exits n target b)
-exits_room n target b h g k =
+pub exits_lands : (n : Now) (target : ℕ) (b : Bring) → rooms.exit target b n → Lands rooms (landing b (layer_at target n.context) (left_by n target b).todo) (after_leaving n (left_by n target b))
+exits_lands n target b x =
+    let k = x.2 in
     let d = distance target n.context in
     let e : d + (target - 1) ≡ length n.context = omega (arith, inside_context target b n.context k) in
     let o = layer_at target (bares n.context) in
     let left = leave n.thread (saved.Exit target b) d n.context in
-    let r : LeftRoom left.around left.todo o = leave_room n.thread target d b o n.context e h g (leads_room_first target d b n.context e k) in
+    let r : LeftRoom left.around left.todo o = leave_room n.thread target d b o n.context e x.0 x.1 (leads_room_first target d b n.context e k) in
     let same : bares left.around ≡ bares (stir left.stirred left.around) = sym (bares-stir left.stirred left.around) in
     let raw : o ≡ option_map bare (layer_at target n.context) = layer_at-bares target n.context in
-    lands_room (after_leaving n left) b (layer_at target n.context) left.todo
+    lands_there (after_leaving n left) b (layer_at target n.context) left.todo
     (subst (λ x. NothingSpare b x) raw (nothing_spare target b (bares n.context) k))
     (subst LayersRoom same r.rooms)
     (subst (λ x. TodoRoom left.todo x (bares (stir left.stirred left.around))) raw (subst (λ x. TodoRoom left.todo o x) same r.todo))

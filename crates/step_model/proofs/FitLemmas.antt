@@ -1,5 +1,5 @@
 -- What going in, giving and opening leave fits.
-use Rattle.std.proofs.Common.{◌≡◌, ℕ, zero, suc, ◌+◌, ◌-◌, Bool, true, false, List, [], ◌∷◌, ◌++◌, length, Option, Some, None, refl, sym, ◌∙◌}
+use Rattle.std.proofs.Common.{◌≡◌, ℕ, zero, suc, ◌+◌, ◌-◌, Bool, true, false, List, [], ◌∷◌, ◌++◌, length, Option, Some, None, refl, ◌∙◌}
 use Rattle.std.proofs.lemmas.Bool.{false≢true}
 use Rattle.lisp_data.specs.declared.value.Value.{Value}
 use Rattle.lisp_data.specs.declared.value.Condition.{Condition}
@@ -14,8 +14,6 @@ use Rattle.term_model.specs.declared.focus.Focus.TheVariants as focus
 use Rattle.term_model.specs.declared.found.Found.{Found}
 use Rattle.term_model.specs.declared.found.Found.TheVariants.{Already, Here, Inside}
 use Rattle.term_model.specs.declared.frame.Frame.TheVariants as frame
-use Rattle.term_model.specs.declared.kept.Outcome.{Outcome}
-use Rattle.term_model.specs.declared.kept.Outcome.TheVariants as outcome
 use Rattle.term_model.specs.declared.kept.Saved.TheVariants as saved
 use Rattle.term_model.specs.declared.plain.Plain.{Plain}
 use Rattle.term_model.specs.declared.plain.Plain.TheVariants as plain
@@ -27,7 +25,7 @@ use Rattle.term_model.specs.Term.{Context}
 use Rattle.step_model.specs.Facts.{FocusFits, IsSound, RedexStands, LayerFits, LayersFit, bare_plain, bares, waits}
 use Rattle.step_model.proofs.BareLemmas.{may_open-bares}
 use Rattle.step_model.specs.Now.{Now, around}
-use Rattle.step_model.specs.Perform.{cut_off, exhausted_if, given, gives, gives_in, goes, laid, lays, lays_if, opens}
+use Rattle.step_model.specs.Perform.{cut_off, exhausted_if, laid, lays, lays_if, opens}
 
 abbrev pub Sound : Now → Now → Type 0
 Sound n m = IsSound n.most m.context m.redex
@@ -203,30 +201,7 @@ abbrev pub OptionFits : Plain → Option Found → Type 0
 OptionFits p None = Unit {0}
 OptionFits p (Some found) = FoundFits found × ((d : Context) → LayerFits (frame.On (bare_plain p)) d → waits d ≡ false)
 
-resumed_fits : (p : Plain) (v : Value) → OptionFits p (resumed p v)
+pub resumed_fits : (p : Plain) (v : Value) → OptionFits p (resumed p v)
 resumed_fits (plain.Form p) v = (continued_fits p v, λ d h. h)
 resumed_fits (plain.Map g list next collected) v = (refl, λ d h. h)
 resumed_fits p v = tt
-
-given_fits : (n : Now) (p : Plain) (c : Context) (v : Value) (o : Option Found) → OptionFits p o → LayersFit (bares (frame.On p ∷ c)) → Sound n (given n p c v o)
-given_fits n p c v None o h = record { layers = h; redex = refl }
-given_fits n p c v (Some found) o h = lays_fits (around n c) [] found (record { layers = h.1; busy = o.1 (bares c) h.0 }) tt o.0
-
-gives_in_fits : (n : Now) (c : Context) (o : Outcome) → Place (bares c) → Sound n (gives_in n c o)
-gives_in_fits n [] o place = absurd (false≢true (sym place.busy))
-gives_in_fits n (frame.On p ∷ c) (outcome.Value v) place = given_fits n p c v (resumed p v) (resumed_fits p v) place.layers
-gives_in_fits n (frame.On p ∷ c) (outcome.Reply r) place = record { layers = place.layers; redex = refl }
-gives_in_fits n (frame.Protect k cleanup ∷ c) o place = record { layers = place.layers; redex = refl }
-gives_in_fits n (frame.Cleanup k kept ∷ c) o place = record { layers = place.layers; redex = refl }
-gives_in_fits n (frame.Rex i id form ∷ c) o place = record { layers = place.layers; redex = refl }
-gives_in_fits n (frame.Sldb m condition again ∷ c) o place = absurd (false≢true (sym place.busy))
-gives_in_fits n (frame.Ask kind tag ∷ c) o place = record { layers = place.layers; redex = refl }
-
-pub gives_fits : (n : Now) (o : Outcome) → Place (bares n.context) → Sound n (gives n o)
-gives_fits n o place = gives_in_fits n n.context o place
-
-pub goes_fits : (n : Now) (ps : List Plain) (found : Found) → Place (bares n.context) → PlainsFit ps (bares n.context) → FoundFits found → Sound n (goes n ps found)
-goes_fits n [] (Already v) place g h = gives_fits n (outcome.Value v) place
-goes_fits n [] (Here f) place g h = lays_fits n [] (Here f) place g h
-goes_fits n [] (Inside p e) place g h = lays_fits n [] (Inside p e) place g h
-goes_fits n (p ∷ ps) found place g h = lays_fits n (p ∷ ps) found place g h

@@ -1,33 +1,19 @@
 -- A step and a break keep the layers within their limit.
-use Rattle.std.proofs.Common.{◌≡◌, ℕ, ℤ, zero, suc, ◌+◌, ◌≤◌, Bool, true, false, List, [], ◌∷◌, map, Option, Some, None, refl, sym, ap, subst, arith}
+use Rattle.std.proofs.Common.{◌≡◌, ℕ, suc, ◌+◌, ◌≤◌, Bool, true, false, [], ◌∷◌, map, refl, sym, ap, subst, arith}
 use Rattle.std.proofs.lemmas.Bool.{false≢true}
-use Rattle.lisp_data.specs.declared.sexp.Sexp.{Sexp}
-use Rattle.lisp_data.specs.declared.sexp.Sexp.TheViews.{out-Sexp}
-use Rattle.lisp_data.specs.declared.value.Value.{Value}
-use Rattle.lisp_data.specs.declared.value.Value as value
 use Rattle.lisp_data.specs.declared.value.Value.TheViews.{out-Value}
-use Rattle.lisp_data.specs.declared.value.Condition.{Condition}
-use Rattle.mailboxes.specs.Mail.{first_accepted}
-use Rattle.rpc_messages.specs.Waiting.{accepted}
-use Rattle.rpc_messages.specs.declared.from_emacs.FromEmacs.{FromEmacs}
 use Rattle.rpc_messages.specs.declared.from_emacs.FromEmacs.TheVariants as mail
-use Rattle.rpc_messages.specs.declared.pattern.Pattern.{Pattern}
 use Rattle.rpc_messages.specs.declared.pattern.Pattern.TheVariants as pattern
-use Rattle.syntax_trees.specs.declared.ast.Ast.{Ast}
 use Rattle.term_model.specs.declared.end.End.{End}
 use Rattle.term_model.specs.declared.end.End.TheVariants as end
 use Rattle.term_model.specs.declared.focus.Focus.{Focus}
 use Rattle.term_model.specs.declared.focus.Focus.TheVariants as focus
-use Rattle.term_model.specs.declared.found.Found.TheVariants.{Here}
 use Rattle.term_model.specs.declared.frame.Frame.{Frame}
 use Rattle.term_model.specs.declared.frame.Frame.TheVariants as frame
 use Rattle.term_model.specs.declared.kept.Outcome.{Outcome}
 use Rattle.term_model.specs.declared.kept.Outcome.TheVariants as outcome
-use Rattle.term_model.specs.declared.kept.Saved.TheVariants as saved
 use Rattle.term_model.specs.declared.plain.Plain.TheVariants as plain
-use Rattle.term_model.specs.declared.question.Ask.{Ask}
 use Rattle.term_model.specs.Breaks.{broken_at, may_open}
-use Rattle.term_model.specs.GoingIn.{body, look, value_in}
 use Rattle.term_model.specs.Restarts.{abort_exit}
 use Rattle.term_model.specs.Room.{layers, levels, limit, room}
 use Rattle.term_model.specs.Term.{Context}
@@ -36,77 +22,29 @@ use Rattle.step_model.specs.Act as act
 use Rattle.step_model.specs.Act.{Act}
 use Rattle.step_model.specs.AsBuilt.{leaving, limited, step_as_built}
 use Rattle.step_model.specs.Built.{Built}
-use Rattle.step_model.specs.CurrentPackage.{binds_package, bound_package}
 use Rattle.step_model.specs.Decision.{decided}
-use Rattle.step_model.specs.Facts.{FocusFits, IsSound, bares, waits}
+use Rattle.step_model.specs.Facts.{IsSound, bares, waits}
 use Rattle.step_model.specs.Now.{Now, around, tells}
-use Rattle.step_model.specs.Perform.{answer_in, asks, assigns, awaited, begins, breaks_if, enters_if, interrupted, offering, outward, package_bound, passes, perform, protects, protects_value, sets, takes, takes_mail, took, turned, written, carried}
+use Rattle.step_model.specs.Perform.{assigns, awaited, carried, interrupted, offering, outward, perform, sets, written}
 use Rattle.step_model.specs.Rooms.{BrokenRoom, HasRoom, HasRoomBroken, LayersRoom, RedexRoom, extra, is_offering, number_if}
 use Rattle.step_model.specs.Kinds.{gives_made}
 use Rattle.step_model.specs.Requests.{asked, finished}
 use Rattle.step_model.specs.Rules.{Rules}
 use Rattle.step_model.specs.Step.{announced_at, begun, carried_out, step}
-use Rattle.step_model.specs.Table.{answered, given_row, row}
+use Rattle.step_model.specs.Table.{answered, came_upon, given_row, row}
 use Rattle.step_model.proofs.AsBuiltLemmas.{either_way}
 use Rattle.step_model.proofs.BareLemmas.{bares-with_dynamic, bares-with_lexical, length-bares, levels-bares}
-use Rattle.step_model.proofs.ExitRooms.{Bounded, exits_room, redex_bounded}
-use Rattle.step_model.proofs.FitLemmas.{Place}
-use Rattle.step_model.proofs.PerformFits.{ActFits, EndFits, known, placed, assigns_same, bares-outward, first_is_accepted, sets_same}
-use Rattle.step_model.proofs.RoomLemmas.{Inner, Roomy, any_redex, exhausted_room, gives_room, goes_room, lays_room, limit-least, limit-more, opens_room}
+use Rattle.step_model.proofs.Carrying.{Asked, Carries, carries}
+use Rattle.step_model.proofs.ExitRooms.{Bounded, exits_lands, redex_bounded, rooms}
+use Rattle.step_model.proofs.PerformFits.{ActFits, EndFits, assigns_same, bares-outward, first_is_accepted, known, none_awaited, placed, request_awaited, sets_same}
+use Rattle.step_model.proofs.RoomLemmas.{Inner, Roomy, any_redex, exhausted_room, few_cushion, lays_room, limit-least, limit-more, opens_room}
 use Rattle.step_model.proofs.RowFits.{row_fits}
 use Rattle.step_model.proofs.TargetFits.{abort_fits}
-
-inner_exhausted : (n : Now) → LayersRoom (bares n.context) → layers (bares n.context) ≤ limit (levels (bares n.context)) → Inner (bares n.context)
-inner_exhausted n h g = record { rooms = h; within = g }
-
-within_bounded : (d : Context) → layers d ≤ limit (levels d) → Bounded d
-within_bounded d h = redex_bounded focus.Rpc d h
-
-abort_room : (n : Now) → LayersRoom (bares n.context) → Bounded (bares n.context) → Roomy (perform n (act.Exits (abort_exit n.context)))
-abort_room n h g = exits_room n (abort_exit n.context).target (abort_exit n.context).bring h g (abort_fits n.context)
-
-enters_room : (n : Now) (b : Bool) (condition : Condition) → LayersRoom (bares n.context) → layers (bares n.context) ≤ limit (levels (bares n.context)) → Roomy (enters_if b n condition)
-enters_room n true condition h g = opens_room n condition h (omega arith)
-enters_room n false condition h g = abort_room n h (within_bounded (bares n.context) g)
-
-breaks_room : (n : Now) (b : Bool) (o : Outcome) → LayersRoom (bares n.context) → layers (bares n.context) ≤ limit (levels (bares n.context)) + 1 → Roomy (breaks_if b n o)
-breaks_room n true o h g = opens_room (offering n o) interrupted (tt, h) (omega arith)
-breaks_room n false o h g = abort_room n h (redex_bounded (focus.Given o) (bares n.context) g)
-
-passes_room : (n : Now) (c : Context) (o : Outcome) → Place (bares c) → LayersRoom (bares c) → layers (bares c) ≤ limit (levels (bares c)) + 1 → Roomy (passes n c o)
-passes_room n [] o p h g = record { layers = h; redex = g }
-passes_room n (frame.On q ∷ c) o p h g = record { layers = h; redex = g }
-passes_room n (frame.Protect k cleanup ∷ c) o p h g = goes_room (turned n k o c) [] (body cleanup) (tt, h.1) (omega arith)
-passes_room n (frame.Cleanup k (saved.Kept kept) ∷ c) o p h g = gives_room (around n c) kept h.1 (omega arith)
-passes_room n (frame.Cleanup k (saved.Exit target b) ∷ c) o p h g =
-    let within : layers (bares c) ≤ limit (levels (bares c)) = omega arith in
-    exits_room (around n c) target b h.1 (within_bounded (bares c) within) p.layers.0.1
-passes_room n (frame.Rex i id form ∷ c) (outcome.Reply r) p h g = record { layers = h.1; redex = omega arith }
-passes_room n (frame.Rex i id form ∷ c) (outcome.Value v) p h g = record { layers = h; redex = g }
-passes_room n (frame.Sldb m condition again ∷ c) o p h g = record { layers = h; redex = g }
-passes_room n (frame.Ask kind tag ∷ c) o p h g = record { layers = h; redex = g }
-
-protects_value_room : (n : Now) (o : Option Value) (cleanup : List Ast) → LayersRoom (bares n.context) → layers (bares n.context) ≤ limit (levels (bares n.context)) → Roomy (protects_value n o cleanup)
-protects_value_room n (Some v) cleanup h g = record { layers = (tt, h); redex = omega arith }
-protects_value_room n None cleanup h g = exhausted_room n (may_open n.most n.context) (record { rooms = h; within = g })
 
 -- where there is room for one layer more
 one_more : (c : Context) (space : ℕ) → room c ≡ suc space → layers (bares c) + 1 ≤ limit (levels (bares c))
 one_more c space e =
     let k : room c ≡ suc space = e in omega (arith, length-bares c, ap limit (levels-bares c))
-
-protects_room : (n : Now) (space : ℕ) (e : Ast) (cleanup : List Ast) → room n.context ≡ space → LayersRoom (bares n.context) → layers (bares n.context) ≤ limit (levels (bares n.context)) → Roomy (protects n space e cleanup)
-protects_room n zero e cleanup is h g = protects_value_room n (value_in e) cleanup h g
-protects_room n (suc space) e cleanup is h g =
-    goes_room (around (record n { serial = n.serial + 1 }) (frame.Protect n.serial cleanup ∷ n.context)) [] (look e) (tt, h) (omega (arith, one_more n.context space is))
-
-awaited_room : (kind : Ask) (tag : ℕ) (d : Context) → layers d ≤ limit (levels d) → RedexRoom (focus.Wait (awaited kind tag)) d
-awaited_room kind tag d h = any_redex (focus.Wait (awaited kind tag)) d h
-
-asks_room : (n : Now) (space : ℕ) (kind : Ask) (text : List ℕ) → room n.context ≡ space → LayersRoom (bares n.context) → layers (bares n.context) ≤ limit (levels (bares n.context)) → Roomy (asks n space kind text)
-asks_room n zero kind text is h g = exhausted_room n (may_open n.most n.context) (record { rooms = h; within = g })
-asks_room n (suc space) kind text is h g =
-    let more = one_more n.context space is in record { layers = (more, h); redex = awaited_room kind n.tag (frame.Ask kind n.tag ∷ bares n.context) (omega arith) }
 
 -- ---- waiting for a request
 
@@ -128,26 +66,40 @@ waits_room (frame.Cleanup k kept ∷ d) e h = absurd (false≢true e)
 waits_room (frame.Rex i id form ∷ d) e h = absurd (false≢true e)
 waits_room (frame.Ask kind tag ∷ d) e h = absurd (false≢true e)
 
-begins_room : (n : Now) (i : ℕ) (id : ℤ) (form : Sexp) (b : Bool) (v : Value) → LayersRoom (bares n.context) → waits (bares n.context) ≡ true → Roomy (begins n i id form b v)
-begins_room n i id form b v h e =
-    lays_room (around n (frame.Rex i id form ∷ n.context)) (package_bound b v) (Here focus.Rpc) (tt, h) (omega (arith, waits_room (bares n.context) e h))
-
-taken_room : (n : Now) (p : Pattern) (i : ℕ) (m : FromEmacs) → accepted p m ≡ true → FocusFits (focus.Wait p) (bares n.context) → LayersRoom (bares n.context) → layers (bares n.context) ≤ limit (levels (bares n.context)) → Roomy (takes_mail n i m)
-taken_room n pattern.Rex i (mail.Rex form name thread id) a f h g = begins_room n i id form (binds_package form) (bound_package n.image name) h f
-taken_room n (pattern.StringFor wanted) i (mail.Rex form name thread id) a f h g = absurd (false≢true a)
-taken_room n (pattern.ValueFor wanted) i (mail.Rex form name thread id) a f h g = absurd (false≢true a)
-taken_room n p i (mail.ReturnString thread tag text) a f h g = gives_room n (outcome.Value (value.Str text)) h (omega arith)
-taken_room n p i (mail.Return thread tag form) a f h g = gives_room n (outcome.Value (answer_in (out-Sexp form))) h (omega arith)
-taken_room n pattern.Rex i (mail.Interrupt thread) a f h g = absurd (false≢true a)
-taken_room n (pattern.StringFor wanted) i (mail.Interrupt thread) a f h g = absurd (false≢true a)
-taken_room n (pattern.ValueFor wanted) i (mail.Interrupt thread) a f h g = absurd (false≢true a)
-taken_room n pattern.Rex i (mail.Unreadable packet text) a f h g = absurd (false≢true a)
-taken_room n (pattern.StringFor wanted) i (mail.Unreadable packet text) a f h g = absurd (false≢true a)
-taken_room n (pattern.ValueFor wanted) i (mail.Unreadable packet text) a f h g = absurd (false≢true a)
-
-takes_room : (n : Now) (p : Pattern) (o : Option (ℕ × FromEmacs)) → first_accepted p n.mailbox ≡ o → FocusFits (focus.Wait p) (bares n.context) → LayersRoom (bares n.context) → layers (bares n.context) ≤ limit (levels (bares n.context)) → Roomy (takes n p o)
-takes_room n p None e f h g = record { layers = h; redex = any_redex (focus.Wait p) (bares n.context) g }
-takes_room n p (Some m) e f h g = taken_room (took n p m.0) p m.0 m.1 (first_is_accepted p n.mailbox m e) f h g
+carries_room : Carries rooms
+carries_room = record {
+  passes = λ n h. (h.0, (h.1.rooms, omega (arith, h.1.within)));
+  redex = λ n h. h.1;
+  place = λ n h. (h.0, omega (arith, h.1, few_cushion (bares n.context)));
+  value = λ v. tt;
+  bare = λ n. tt;
+  whole = λ es. tt;
+  part = λ e. tt;
+  gives = λ n o h. record { layers = h.0.0; redex = h.0.1 };
+  lays = λ n ps found h. lays_room n ps found h.0.0 h.0.1;
+  resumes = λ n q c v found e h. ((h.0.1, omega (arith, h.1)), tt);
+  exits = exits_lands;
+  aborts = λ n h. (h.1.0, redex_bounded focus.Abort (bares n.context) h.1.1, abort_fits n.context);
+  debugs = λ n condition e h. opens_room n condition h.1.rooms (omega (arith, h.1.within));
+  breaks = λ n o e h g. opens_room (offering n o) interrupted (tt, h.1.0) (omega (arith, h.1.1));
+  exhausts = λ n h. exhausted_room n (may_open n.most n.context) h.1;
+  turns = λ n i cleanup c o h g. ((tt, h.1.0.1), omega (arith, h.1.1));
+  keeps = λ n i c o h. ((h.1.0.1, omega (arith, h.1.1)), tt);
+  leaves = λ n i c target b h. (h.1.0.1, redex_bounded focus.Rpc (bares c) (omega (arith, h.1.1)), h.0.layers.0.1);
+  replies = λ n at id form c r h g e. record { layers = h.1.0.1; redex = omega (arith, h.1.1) };
+  protects = λ n space cleanup e h. ((tt, h.1.rooms), omega (arith, one_more n.context space e));
+  protects_value = λ n v cleanup h. record { layers = (tt, h.1.rooms); redex = omega (arith, h.1.within) };
+  asks = λ n space kind text e h.
+      let more = one_more n.context space e in
+      record { layers = (more, h.1.rooms); redex = any_redex (focus.Wait (awaited kind n.tag)) (frame.Ask kind n.tag ∷ bares n.context) (omega arith) };
+  closes = λ n h. record { layers = h.1.rooms; redex = h.1.within };
+  waits = λ n q h. record { layers = h.1.rooms; redex = any_redex (focus.Wait q) (bares n.context) h.1.within };
+  begins = λ n q i form package' thread id e h.
+      let is = request_awaited q form package' thread id (bares n.context) (first_is_accepted q n.mailbox (i, mail.Rex form package' thread id) e) h.0 in
+      (((tt, h.1.rooms), omega (arith, waits_room (bares n.context) is h.1.rooms)), tt, tt);
+  answers = λ n q i m e a h. (h.1.rooms, omega (arith, h.1.within));
+  hears = λ n q i m e a h. absurd (none_awaited q m (first_is_accepted q n.mailbox (i, m) e) a);
+}
 
 -- ---- acts within the limit
 
@@ -164,22 +116,22 @@ outward_inner (frame.Sldb m condition again ∷ c) h g = record { rooms = h; wit
 both : (d e : Context) → d ≡ e → Inner d → Inner e
 both d e same i = subst Inner same i
 
-end_room : (n : Now) (e : End) → EndFits known e (bares n.context) → Inner (bares n.context) → Roomy (carried n e)
-end_room n (end.Goes ps found) f i = goes_room n ps found i.rooms (omega (arith, i.within))
-end_room n (end.Gives o) f i = gives_room n o i.rooms (omega (arith, i.within))
-end_room n (end.Raises condition) f i = lays_room n (plain.Before (focus.Enter condition) ∷ []) (Here (focus.Signal condition)) i.rooms (omega (arith, i.within))
-end_room n (end.Resumes g) f i = record { layers = i.rooms; redex = any_redex g (bares n.context) i.within }
-end_room n (end.Passes o) f i = passes_room n n.context o (placed f.0) i.rooms (omega (arith, i.within))
-end_room n (end.Protects e cleanup) f i = protects_room n (room n.context) e cleanup refl i.rooms i.within
-end_room n (end.Asks kind text) f i = asks_room n (room n.context) kind text refl i.rooms i.within
-end_room n (end.Opens condition) f i = enters_room n (may_open n.most n.context) condition i.rooms i.within
-end_room n (end.Breaks o) f i = breaks_room n (may_open n.most n.context) o i.rooms (omega (arith, i.within))
-end_room n (end.Exits x) f i = exits_room n x.target x.bring i.rooms (within_bounded (bares n.context) i.within) f.1
-end_room n (end.Takes p) f i = takes_room n p (first_accepted p n.mailbox) refl (f tt).1 i.rooms i.within
-end_room n end.Closes f i = record { layers = i.rooms; redex = i.within }
+end_asks : (n : Now) (e : End) → EndFits known e (bares n.context) → Inner (bares n.context) → Asked rooms e n
+end_asks n (end.Goes ps found) f i = ((i.rooms, omega (arith, i.within)), tt, tt)
+end_asks n (end.Gives o) f i = ((i.rooms, omega (arith, i.within)), tt)
+end_asks n (end.Raises condition) f i = ((i.rooms, omega (arith, i.within)), tt, tt)
+end_asks n (end.Resumes g) f i = record { layers = i.rooms; redex = any_redex g (bares n.context) i.within }
+end_asks n (end.Passes o) f i = ((placed f.0, (i.rooms, omega (arith, i.within))), tt, tt)
+end_asks n (end.Protects e cleanup) f i = (placed f, i)
+end_asks n (end.Asks kind text) f i = (placed f, i)
+end_asks n (end.Opens condition) f i = (placed f, i)
+end_asks n (end.Breaks o) f i = ((placed f, (i.rooms, omega (arith, i.within))), tt)
+end_asks n (end.Exits x) f i = (i.rooms, redex_bounded focus.Rpc (bares n.context) i.within, f.1)
+end_asks n (end.Takes p) f i = ((f tt).1, i)
+end_asks n end.Closes f i = (placed f, i)
 
 perform_room : (n : Now) (a : Act) → ActFits known a (bares n.context) → Inner (bares n.context) → Roomy (perform n a)
-perform_room n (act.Ends e) f i = end_room n e f i
+perform_room n (act.Ends e) f i = carries rooms carries_room n e (end_asks n e f i)
 perform_room n (act.Outward a) f i =
     perform_room (around n (outward n.context)) a (subst (λ d. ActFits known a d) (sym (bares-outward n.context)) f) (outward_inner n.context i.rooms i.within)
 perform_room n (act.Writes ws a) f i = perform_room (tells n (map written ws)) a f i
@@ -214,23 +166,31 @@ outward_room n l c a e same f h g =
     let i = tail_inner l c e h g in
     perform_room (around n (outward (l ∷ c))) a (subst (λ d. ActFits known a (bares d)) (sym same) f) (subst (λ d. Inner (bares d)) (sym same) i)
 
+-- an outcome that is passed on
+past_room : (n : Now) (c : Context) (o : Outcome) → EndFits known (end.Passes o) (bares c) → LayersRoom (bares c) → layers (bares c) ≤ limit (levels (bares c)) + 1 → Roomy (carried (around n c) (end.Passes o))
+past_room n c o f h g = carries rooms carries_room (around n c) (end.Passes o) ((placed f.0, (h, g)), tt, tt)
+
+-- leaving by the innermost visible ABORT
+abort_room : (n : Now) → LayersRoom (bares n.context) → Bounded (bares n.context) → Roomy (perform n (act.Exits (abort_exit n.context)))
+abort_room n h g = carries rooms carries_room n (end.Exits (abort_exit n.context)) (h, g, abort_fits n.context)
+
 -- the row of one thread, carried out by another in the same place
 given_room : (rules : Rules) (n m : Now) (c : Context) (o : Outcome) → ActFits known (decided n (given_row rules c o)) (bares c) → LayersRoom (bares c) → layers (bares c) ≤ limit (levels (bares c)) + 1 → Roomy (perform (around m c) (decided n (given_row rules c o)))
-given_room rules n m [] o f h g = passes_room (around m []) [] o (placed f.0) h g
+given_room rules n m [] o f h g = past_room m [] o f h g
 given_room rules n m (frame.On (plain.Before q) ∷ c) o f h g = outward_room m (frame.On (plain.Before q)) c (act.Resumes q) refl refl f h g
 given_room rules n m (frame.On (plain.Answer kept) ∷ c) (outcome.Value v) f h g = outward_room m (frame.On (plain.Answer kept)) c (finished (around n c) v (rules.finish (asked (around n c)) kept v)) refl refl f h g
 given_room rules n m (frame.On p ∷ c) o f h g = outward_room m (frame.On p) c (act.Gives o) refl refl f h g
 given_room rules n m (frame.Ask kind tag ∷ c) (outcome.Value v) f h g = outward_room m (frame.Ask kind tag) c (gives_made (answered kind (out-Value v))) refl refl f h g
 given_room rules n m (frame.Ask kind tag ∷ c) (outcome.Reply r) f h g = outward_room m (frame.Ask kind tag) c (act.Gives (outcome.Reply r)) refl refl f h g
-given_room rules n m (frame.Protect k cleanup ∷ c) o f h g = passes_room (around m (frame.Protect k cleanup ∷ c)) (frame.Protect k cleanup ∷ c) o (placed f.0) h g
-given_room rules n m (frame.Cleanup k kept ∷ c) o f h g = passes_room (around m (frame.Cleanup k kept ∷ c)) (frame.Cleanup k kept ∷ c) o (placed f.0) h g
-given_room rules n m (frame.Rex i id form ∷ c) o f h g = passes_room (around m (frame.Rex i id form ∷ c)) (frame.Rex i id form ∷ c) o (placed f.0) h g
-given_room rules n m (frame.Sldb level condition again ∷ c) o f h g = passes_room (around m (frame.Sldb level condition again ∷ c)) (frame.Sldb level condition again ∷ c) o (placed f.0) h g
+given_room rules n m (frame.Protect k cleanup ∷ c) o f h g = past_room m (frame.Protect k cleanup ∷ c) o f h g
+given_room rules n m (frame.Cleanup k kept ∷ c) o f h g = past_room m (frame.Cleanup k kept ∷ c) o f h g
+given_room rules n m (frame.Rex i id form ∷ c) o f h g = past_room m (frame.Rex i id form ∷ c) o f h g
+given_room rules n m (frame.Sldb level condition again ∷ c) o f h g = past_room m (frame.Sldb level condition again ∷ c) o f h g
 
 -- the row of a redex
 row_room : (rules : Rules) (n : Now) (f : Focus) → ActFits known (row rules n f) (bares n.context) → LayersRoom (bares n.context) → BrokenRoom f (bares n.context) → Roomy (perform (begun n) (row rules n f))
 row_room rules n (focus.Given o) a h g = given_room rules n (begun n) n.context o a h g
-row_room rules n (focus.Break o) a h g = breaks_room (begun n) (may_open n.most n.context) _ h g
+row_room rules n (focus.Break o) a h g = carries rooms carries_room (begun n) (end.Breaks (came_upon o)) ((placed a, (h, g)), tt)
 row_room rules n focus.Abort a h g = abort_room (begun n) h (redex_bounded focus.Abort (bares n.context) g)
 row_room rules n f a h g = perform_room (begun n) (row rules n f) a (record { rooms = h; within = g })
 

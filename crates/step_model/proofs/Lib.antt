@@ -1,5 +1,6 @@
 pub mod MarkLemmas
 pub mod AsBuiltLemmas
+pub mod Carrying
 pub mod Paths
 pub mod BareLemmas
 pub mod FitLemmas

@@ -1,17 +1,15 @@
 -- Each act keeps the facts, where it fits its place.
-use Rattle.std.proofs.Common.{◌≡◌, ℕ, ℤ, zero, suc, ◌+◌, Bool, true, false, List, [], ◌∷◌, map, Option, Some, None, refl, sym, subst}
+use Rattle.std.proofs.Common.{◌≡◌, ℕ, ℤ, Bool, true, false, List, [], ◌∷◌, map, Option, Some, None, refl, sym, subst}
 use Rattle.std.specs.Prelude.{if◌then◌else◌, slice_get}
 use Rattle.std.proofs.lemmas.Bool.{false≢true}
 use Rattle.lisp_data.specs.declared.sexp.Sexp.{Sexp}
-use Rattle.lisp_data.specs.declared.sexp.Sexp.TheViews.{out-Sexp}
 use Rattle.lisp_data.specs.declared.symbol.Symbol.{Symbol}
 use Rattle.lisp_data.specs.declared.value.Value.{Value}
-use Rattle.lisp_data.specs.declared.value.Value as value
-use Rattle.lisp_data.specs.declared.value.Condition.{Condition}
 use Rattle.mailboxes.specs.Mail.{first_accepted}
 use Rattle.rpc_messages.specs.Waiting.{accepted}
 use Rattle.rpc_messages.specs.declared.from_emacs.FromEmacs.{FromEmacs}
 use Rattle.rpc_messages.specs.declared.from_emacs.FromEmacs.TheVariants as mail
+use Rattle.rpc_messages.specs.declared.from_emacs.ThreadName.{ThreadName}
 use Rattle.rpc_messages.specs.declared.pattern.Pattern.{Pattern}
 use Rattle.rpc_messages.specs.declared.pattern.Pattern.TheVariants as pattern
 use Rattle.syntax_trees.specs.declared.ast.Ast.{Ast}
@@ -19,27 +17,23 @@ use Rattle.syntax_trees.specs.Places.{forms_of, row_of}
 use Rattle.term_model.specs.declared.end.End.{End}
 use Rattle.term_model.specs.declared.end.End.TheVariants as end
 use Rattle.term_model.specs.declared.focus.Focus.TheVariants as focus
-use Rattle.term_model.specs.declared.found.Found.TheVariants.{Already, Here}
+use Rattle.term_model.specs.declared.found.Found.{Found}
 use Rattle.term_model.specs.declared.frame.Frame.{Frame}
 use Rattle.term_model.specs.declared.frame.Frame.TheVariants as frame
 use Rattle.term_model.specs.declared.kept.Bring.{Bring}
 use Rattle.term_model.specs.declared.kept.Bring.TheVariants as bring
 use Rattle.term_model.specs.declared.kept.Outcome.{Outcome}
-use Rattle.term_model.specs.declared.kept.Outcome.TheVariants as outcome
-use Rattle.term_model.specs.declared.kept.Saved.TheVariants as saved
 use Rattle.term_model.specs.declared.plain.Cluster.TheVariants.{Clauses}
+use Rattle.term_model.specs.declared.plain.Plain.{Plain}
 use Rattle.term_model.specs.declared.plain.Plain.TheVariants as plain
 use Rattle.term_model.specs.declared.question.Ask.{Ask}
 use Rattle.term_model.specs.declared.question.Ask.TheVariants as question
 use Rattle.term_model.specs.declared.restart.Action.{Action}
 use Rattle.term_model.specs.declared.restart.Action.TheVariants.{Give, Run}
 use Rattle.term_model.specs.declared.restart.Offer.{Offer}
-use Rattle.term_model.specs.Breaks.{may_open}
-use Rattle.term_model.specs.Exit.{distance, leave, stir}
+use Rattle.term_model.specs.Exit.{stir}
 use Rattle.lisp_data.specs.Parts.{nil}
-use Rattle.term_model.specs.GoingIn.{body, look, value_in}
-use Rattle.term_model.specs.Restarts.{abort_exit}
-use Rattle.term_model.specs.Room.{room}
+use Rattle.term_model.specs.GoingIn.{resumed}
 use Rattle.term_model.specs.Search.{layer_at}
 use Rattle.term_model.specs.Term.{Context}
 use Rattle.term_model.specs.Variables.{with_dynamic, with_lexical}
@@ -48,11 +42,12 @@ use Rattle.step_model.specs.Act.{Act}
 use Rattle.step_model.specs.CurrentPackage.{binds_package, bound_package}
 use Rattle.step_model.specs.Facts.{FocusFits, IsSound, LayersFit, TargetFits, bares, waits}
 use Rattle.step_model.specs.Now.{Mailbox, Now, around, tells}
-use Rattle.step_model.specs.Perform.{after_leaving, answer_in, asks, assigns, assigns_or, awaited, begins, breaks_if, brings, calls_again, clause_bound, condition_bound, enters_if, exits, interrupted, lands, offering, outward, package_bound, parameters_bound, passes, perform, protects, protects_value, runs, runs_action, runs_clause, runs_handler, runs_offer, sets, sets_or, takes, takes_mail, took, turned, written, carried}
+use Rattle.step_model.specs.Perform.{after_leaving, assigns, assigns_or, awaited, clause_bound, condition_bound, exhausted, interrupted, lays, offering, opens, outward, package_bound, parameters_bound, perform, sets, sets_or, written}
 use Rattle.step_model.specs.Roles.{Role, HandlerClause, RestartClause, role_of}
 use Rattle.step_model.proofs.BareLemmas.{SameBares, bares-stir, bares-with_dynamic, bares-with_lexical}
-use Rattle.step_model.proofs.FitLemmas.{FoundFits, Place, PlainsFit, Sound, body_fits, exhausted_place, gives_fits, goes_fits, lays_fits, look_fits, opens_fits, redex_stands}
-use Rattle.step_model.proofs.TargetFits.{LeavesWell, TodoFits, abort_fits, brings_nothing, leaves_well}
+use Rattle.step_model.proofs.Carrying.{Asked, Carries, Lands, Property, carries, is_answer, is_other, landing, left_by, of_action, of_call, of_clause, of_handler, of_offer, of_target}
+use Rattle.step_model.proofs.FitLemmas.{FoundFits, OptionFits, Place, PlainsFit, Sound, body_fits, exhausted_place, lays_fits, look_fits, opens_fits, redex_stands, resumed_fits}
+use Rattle.step_model.proofs.TargetFits.{LeavesWell, TodoFits, abort_fits, leaves_well}
 
 -- what a law knows of a thread, and what it asks of an outcome that a row passes on
 pub record Wanted : Type 1 where
@@ -112,127 +107,74 @@ package_fits : (b : Bool) (v : Value) (d : Context) → waits d ≡ false → Pl
 package_fits true v d e = (e, tt)
 package_fits false v d e = tt
 
--- ---- exits
+-- ---- a property of threads that open so many levels
 
-goes_nil : (n : Now) → Place (bares n.context) → Sound n (runs_handler n None [])
-goes_nil n place = goes_fits n [] (Already nil) place tt tt
+abbrev At : ℕ → Now → Type 0
+At k n = (n.most ≡ k) × Place (bares n.context)
+
+abbrev facts : ℕ → Property
+facts k = record {
+  inner = At k;
+  passing = At k;
+  stands = At k;
+  holds = At k;
+  done = λ n. IsSound k n.context n.redex;
+  markers = λ ps n. PlainsFit ps (bares n.context);
+  form = FoundFits;
+  outcome = λ o. Unit {0};
+  passed = λ o. Unit {0};
+  exit = λ target b n. (n.most ≡ k) × LayersFit (bares n.context) × TargetFits target b (bares n.context);
+  waiting = λ q n. (n.most ≡ k) × LayersFit (bares n.context) × FocusFits (focus.Wait q) (bares n.context);
+}
+
+-- ---- exits
 
 clause_bound_fit : (r : Role) (vs : List Value) (d : Context) → waits d ≡ false → PlainsFit (clause_bound r vs) d
 clause_bound_fit (HandlerClause x) vs d e = condition_fits x vs d e
 clause_bound_fit (RestartClause name parameters report) vs d e = parameters_fit parameters vs d e
 clause_bound_fit r vs d e = tt
 
-node_runs : (n : Now) (clause : Ast) (vs : List Value) → Place (bares n.context) → Sound n (runs n clause vs)
-node_runs n clause vs place = goes_fits n _ _ place (clause_bound_fit (role_of (row_of clause)) vs (bares n.context) place.busy) (body_fits (forms_of clause))
+module _ (k : ℕ) (n : Now) where
+  clause_lands : (clause : Ast) (vs : List Value) → At k n → Lands (facts k) (of_clause clause vs) n
+  clause_lands clause vs h = (h, clause_bound_fit (role_of (row_of clause)) vs (bares n.context) h.1.busy, body_fits (forms_of clause))
 
-handler_runs : (n : Now) (clause : Option Ast) (vs : List Value) → Place (bares n.context) → Sound n (runs_handler n clause vs)
-handler_runs n None vs place = goes_nil n place
-handler_runs n (Some clause) vs place = node_runs n clause vs place
+  handler_lands : (clause : Option Ast) (vs : List Value) → At k n → Lands (facts k) (of_handler clause vs) n
+  handler_lands None vs h = (h, tt)
+  handler_lands (Some clause) vs h = clause_lands clause vs h
 
-action_runs : (n : Now) (action : Action) (vs : List Value) → Place (bares n.context) → Sound n (runs_action n action vs)
-action_runs n (Give o) vs place = gives_fits n o place
-action_runs n (Run clause) vs place = node_runs n clause vs place
+  action_lands : (action : Action) (vs : List Value) → At k n → Lands (facts k) (of_action action vs) n
+  action_lands (Give o) vs h = (h, tt)
+  action_lands (Run clause) vs h = clause_lands clause vs h
 
-offer_runs : (n : Now) (offer : Option Offer) (vs : List Value) → Place (bares n.context) → Sound n (runs_offer n offer vs)
-offer_runs n None vs place = goes_nil n place
-offer_runs n (Some offer) vs place = action_runs n offer.action vs place
+  offer_lands : (offer : Option Offer) (vs : List Value) → At k n → Lands (facts k) (of_offer offer vs) n
+  offer_lands None vs h = (h, tt)
+  offer_lands (Some offer) vs h = action_lands offer.action vs h
 
-clause_runs : (n : Now) (target : Option Frame) (i : ℕ) (vs : List Value) → Place (bares n.context) → Sound n (runs_clause n target i vs)
-clause_runs n (Some (frame.On (plain.Handlers (Clauses clauses)))) i vs place = handler_runs n (slice_get clauses i) vs place
-clause_runs n (Some (frame.On (plain.Restarts offers))) i vs place = offer_runs n (slice_get offers i) vs place
-clause_runs n target i vs place = goes_nil n place
+  target_lands : (target : Option Frame) (i : ℕ) (vs : List Value) → At k n → Lands (facts k) (of_target target i vs) n
+  target_lands (Some (frame.On (plain.Handlers (Clauses clauses)))) i vs h = handler_lands (slice_get clauses i) vs h
+  target_lands (Some (frame.On (plain.Restarts offers))) i vs h = offer_lands (slice_get offers i) vs h
+  target_lands target i vs h = (h, tt)
 
-call_runs : (n : Now) (target : Option Frame) → Place (bares n.context) → Sound n (calls_again n target)
-call_runs n (Some (frame.On (plain.Call g vs))) place = goes_fits n [] (Here (focus.Apply g vs)) place tt refl
-call_runs n target place = goes_nil n place
+  call_lands : (target : Option Frame) → At k n → Lands (facts k) (of_call target) n
+  call_lands (Some (frame.On (plain.Call g vs))) h = (h, tt, refl)
+  call_lands target h = (h, tt)
 
-brings_fits : (n : Now) (b : Bring) (target : Option Frame) → LayersFit (bares n.context) → waits (bares n.context) ≡ brings_nothing b → Sound n (brings n b target)
-brings_fits n (bring.Value v) target h e = gives_fits n (outcome.Value v) (record { layers = h; busy = e })
-brings_fits n (bring.Reply r) target h e = gives_fits n (outcome.Reply r) (record { layers = h; busy = e })
-brings_fits n (bring.Clause i vs) target h e = clause_runs n target i vs (record { layers = h; busy = e })
-brings_fits n bring.Call target h e = call_runs n target (record { layers = h; busy = e })
-brings_fits n bring.Nothing target h e = record { layers = h; redex = e }
+  lands_fit : (b : Bring) (target : Option Frame) (todo : Option (List Ast)) → n.most ≡ k → LayersFit (bares n.context) → TodoFits b todo (bares n.context) → Lands (facts k) (landing b target todo) n
+  lands_fit b target (Some cleanup) m h e = ((m, record { layers = h; busy = e }), tt, body_fits cleanup)
+  lands_fit (bring.Value v) target None m h e = ((m, record { layers = h; busy = e }), tt)
+  lands_fit (bring.Reply r) target None m h e = ((m, record { layers = h; busy = e }), tt)
+  lands_fit (bring.Clause i vs) target None m h e = target_lands target i vs (m, record { layers = h; busy = e })
+  lands_fit bring.Call target None m h e = call_lands target (m, record { layers = h; busy = e })
+  lands_fit bring.Nothing target None m h e = record { layers = h; redex = e }
 
-lands_fits : (n : Now) (b : Bring) (target : Option Frame) (todo : Option (List Ast)) → LayersFit (bares n.context) → TodoFits b todo (bares n.context) → Sound n (lands n b target todo)
-lands_fits n b target (Some cleanup) h e = goes_fits n [] (body cleanup) (record { layers = h; busy = e }) tt (body_fits cleanup)
-lands_fits n b target None h e = brings_fits n b target h e
-
-pub exits_fits : (n : Now) (target : ℕ) (b : Bring) → LayersFit (bares n.context) → TargetFits target b (bares n.context) → Sound n (exits n target b)
-exits_fits n target b h g =
-    let left = leave n.thread (saved.Exit target b) (distance target n.context) n.context in
-    let well : LeavesWell n.thread target b n.context = leaves_well n.thread target b n.context h g in
+exits_fit : (k : ℕ) (n : Now) (target : ℕ) (b : Bring) → (facts k).exit target b n → Lands (facts k) (landing b (layer_at target n.context) (left_by n target b).todo) (after_leaving n (left_by n target b))
+exits_fit k n target b h =
+    let left = left_by n target b in
+    let well : LeavesWell n.thread target b n.context = leaves_well n.thread target b n.context h.1 h.2 in
     let same : bares left.around ≡ bares (stir left.stirred left.around) = sym (bares-stir left.stirred left.around) in
-    lands_fits (after_leaving n left) b (layer_at target n.context) left.todo
-    (subst LayersFit same well.layers) (subst (λ d. TodoFits b left.todo d) same well.todo)
+    lands_fit k (after_leaving n left) b (layer_at target n.context) left.todo h.0 (subst LayersFit same well.layers) (subst (λ d. TodoFits b left.todo d) same well.todo)
 
-leaves_by_abort : (n : Now) → LayersFit (bares n.context) → Sound n (exits n (abort_exit n.context).target (abort_exit n.context).bring)
-leaves_by_abort n h = exits_fits n (abort_exit n.context).target (abort_exit n.context).bring h (abort_fits n.context)
-
--- ---- acts
-
-enters_fits : (n : Now) (b : Bool) (condition : Condition) → Place (bares n.context) → Sound n (enters_if b n condition)
-enters_fits n true condition place = opens_fits n condition place
-enters_fits n false condition place = leaves_by_abort n place.layers
-
-breaks_fits : (n : Now) (b : Bool) (o : Outcome) → Place (bares n.context) → Sound n (breaks_if b n o)
-breaks_fits n true o place = opens_fits (offering n o) interrupted (record { layers = (place.busy, place.layers); busy = refl })
-breaks_fits n false o place = leaves_by_abort n place.layers
-
-passes_fits : (n : Now) (c : Context) (o : Outcome) → Place (bares c) → Sound n (passes n c o)
-passes_fits n [] o place = absurd (false≢true (sym place.busy))
-passes_fits n (frame.On p ∷ c) o place = record { layers = place.layers; redex = refl }
-passes_fits n (frame.Protect k cleanup ∷ c) o place = goes_fits (turned n k o c) [] (body cleanup) (record { layers = place.layers; busy = refl }) tt (body_fits cleanup)
-passes_fits n (frame.Cleanup k (saved.Kept kept) ∷ c) o place = gives_fits (around n c) kept (record { layers = place.layers.1; busy = place.layers.0 })
-passes_fits n (frame.Cleanup k (saved.Exit target b) ∷ c) o place = exits_fits (around n c) target b place.layers.1 place.layers.0.1
-passes_fits n (frame.Rex i id form ∷ c) (outcome.Reply r) place = record { layers = place.layers.1; redex = place.layers.0 }
-passes_fits n (frame.Rex i id form ∷ c) (outcome.Value v) place = record { layers = place.layers; redex = refl }
-passes_fits n (frame.Sldb m condition again ∷ c) o place = absurd (false≢true (sym place.busy))
-passes_fits n (frame.Ask kind tag ∷ c) o place = record { layers = place.layers; redex = refl }
-
-protects_value_fits : (n : Now) (o : Option Value) (cleanup : List Ast) → Place (bares n.context) → Sound n (protects_value n o cleanup)
-protects_value_fits n (Some v) cleanup place = record { layers = (place.busy, place.layers); redex = refl }
-protects_value_fits n None cleanup place = exhausted_place n place
-
-protects_fits : (n : Now) (space : ℕ) (e : Ast) (cleanup : List Ast) → Place (bares n.context) → Sound n (protects n space e cleanup)
-protects_fits n zero e cleanup place = protects_value_fits n (value_in e) cleanup place
-protects_fits n (suc space) e cleanup place =
-    goes_fits (around (record n { serial = n.serial + 1 }) (frame.Protect n.serial cleanup ∷ n.context)) [] (look e) (record { layers = (place.busy, place.layers); busy = refl }) tt (look_fits e)
-
-awaited_fits : (kind : Ask) (tag : ℕ) (d : Context) → waits d ≡ false → FocusFits (focus.Wait (awaited kind tag)) d
-awaited_fits question.String tag d e = e
-awaited_fits question.YesNo tag d e = e
-
-asks_fits : (n : Now) (space : ℕ) (kind : Ask) (text : List ℕ) → Place (bares n.context) → Sound n (asks n space kind text)
-asks_fits n zero kind text place = exhausted_place n place
-asks_fits n (suc space) kind text place = record { layers = (place.busy, place.layers); redex = awaited_fits kind n.tag (frame.Ask kind n.tag ∷ bares n.context) refl }
-
--- a request begins directly in the top or in a level
-begins_fits : (n : Now) (i : ℕ) (id : ℤ) (form : Sexp) (b : Bool) (v : Value) → LayersFit (bares n.context) → waits (bares n.context) ≡ true → Sound n (begins n i id form b v)
-begins_fits n i id form b v h e =
-    lays_fits (around n (frame.Rex i id form ∷ n.context)) (package_bound b v) (Here focus.Rpc) (record { layers = (e, h); busy = refl }) (package_fits b v (frame.Rex i id form ∷ bares n.context) refl) refl
-
-taken_fits : (n : Now) (p : Pattern) (i : ℕ) (m : FromEmacs) → accepted p m ≡ true → LayersFit (bares n.context) → FocusFits (focus.Wait p) (bares n.context) → Sound n (takes_mail n i m)
-taken_fits n pattern.Rex i (mail.Rex form name thread id) a h g = begins_fits n i id form (binds_package form) (bound_package n.image name) h g
-taken_fits n pattern.Rex i (mail.ReturnString thread tag text) a h g = absurd (false≢true a)
-taken_fits n pattern.Rex i (mail.Return thread tag form) a h g = absurd (false≢true a)
-taken_fits n (pattern.StringFor wanted) i (mail.ReturnString thread tag text) a h g = gives_fits n (outcome.Value (value.Str text)) (record { layers = h; busy = g })
-taken_fits n (pattern.StringFor wanted) i (mail.Rex form name thread id) a h g = absurd (false≢true a)
-taken_fits n (pattern.StringFor wanted) i (mail.Return thread tag form) a h g = absurd (false≢true a)
-taken_fits n (pattern.ValueFor wanted) i (mail.Return thread tag form) a h g = gives_fits n (outcome.Value (answer_in (out-Sexp form))) (record { layers = h; busy = g })
-taken_fits n (pattern.ValueFor wanted) i (mail.Rex form name thread id) a h g = absurd (false≢true a)
-taken_fits n (pattern.ValueFor wanted) i (mail.ReturnString thread tag text) a h g = absurd (false≢true a)
-taken_fits n p i (mail.Interrupt thread) a h g = absurd (none_else p a)
-  where
-    none_else : (p : Pattern) → accepted p (mail.Interrupt thread) ≡ true → ⊥
-    none_else pattern.Rex a = false≢true a
-    none_else (pattern.StringFor tag) a = false≢true a
-    none_else (pattern.ValueFor tag) a = false≢true a
-taken_fits n p i (mail.Unreadable packet text) a h g = absurd (none_else p a)
-  where
-    none_else : (p : Pattern) → accepted p (mail.Unreadable packet text) ≡ true → ⊥
-    none_else pattern.Rex a = false≢true a
-    none_else (pattern.StringFor tag) a = false≢true a
-    none_else (pattern.ValueFor tag) a = false≢true a
+-- ---- messages
 
 accepted_if : (p : Pattern) (x : ℕ × FromEmacs) (mb : Mailbox) (m : ℕ × FromEmacs) (b : Bool) → accepted p x.1 ≡ b → (if b then Some x else first_accepted p mb) ≡ Some m → (first_accepted p mb ≡ Some m → accepted p m.1 ≡ true) → accepted p m.1 ≡ true
 accepted_if p x mb m true is e go = let same : x ≡ m = cc in subst (λ (y : ℕ × FromEmacs). accepted p y.1 ≡ true) same is
@@ -242,9 +184,88 @@ pub first_is_accepted : (p : Pattern) (mb : Mailbox) (m : ℕ × FromEmacs) → 
 first_is_accepted p [] m e = absurd (cc)
 first_is_accepted p (x ∷ mb) m e = accepted_if p x mb m (accepted p x.1) refl e (first_is_accepted p mb m)
 
-takes_fits : (n : Now) (p : Pattern) (o : Option (ℕ × FromEmacs)) → first_accepted p n.mailbox ≡ o → LayersFit (bares n.context) → FocusFits (focus.Wait p) (bares n.context) → Sound n (takes n p o)
-takes_fits n p None e h g = record { layers = h; redex = g }
-takes_fits n p (Some m) e h g = taken_fits (took n p m.0) p m.0 m.1 (first_is_accepted p n.mailbox m e) h g
+-- a request is taken where one is awaited, an answer elsewhere, and no other message anywhere
+pub request_awaited : (q : Pattern) (form : Sexp) (package' : Option (List ℕ)) (thread : ThreadName) (id : ℤ) (d : Context) → accepted q (mail.Rex form package' thread id) ≡ true → FocusFits (focus.Wait q) d → waits d ≡ true
+request_awaited pattern.Rex form package' thread id d a h = h
+request_awaited (pattern.StringFor tag) form package' thread id d a h = absurd (false≢true a)
+request_awaited (pattern.ValueFor tag) form package' thread id d a h = absurd (false≢true a)
+
+answer_awaited : (q : Pattern) (m : FromEmacs) (d : Context) → accepted q m ≡ true → is_answer m ≡ true → FocusFits (focus.Wait q) d → waits d ≡ false
+answer_awaited (pattern.StringFor tag) m d a e h = h
+answer_awaited (pattern.ValueFor tag) m d a e h = h
+answer_awaited pattern.Rex (mail.ReturnString thread tag text) d a e h = absurd (false≢true a)
+answer_awaited pattern.Rex (mail.Return thread tag form) d a e h = absurd (false≢true a)
+answer_awaited pattern.Rex m d a e h = absurd (false≢true e)
+
+pub none_awaited : (q : Pattern) (m : FromEmacs) → accepted q m ≡ true → is_other m ≡ true → ⊥
+none_awaited pattern.Rex (mail.Interrupt thread) a e = false≢true a
+none_awaited (pattern.StringFor tag) (mail.Interrupt thread) a e = false≢true a
+none_awaited (pattern.ValueFor tag) (mail.Interrupt thread) a e = false≢true a
+none_awaited pattern.Rex (mail.Unreadable packet text) a e = false≢true a
+none_awaited (pattern.StringFor tag) (mail.Unreadable packet text) a e = false≢true a
+none_awaited (pattern.ValueFor tag) (mail.Unreadable packet text) a e = false≢true a
+none_awaited q m a e = false≢true e
+
+-- ---- acts
+
+still : (k : ℕ) (n m : Now) → n.most ≡ k → Sound n m → IsSound k m.context m.redex
+still k n m e h = subst (λ j. IsSound j m.context m.redex) e h
+
+resumed_place : (k : ℕ) (n : Now) (q : Plain) (c : Context) (o : Option Found) (found : Found) → o ≡ Some found → OptionFits q o → At k (around n (frame.On q ∷ c)) → At k (around n c) × FoundFits found
+resumed_place k n q c o found e f h =
+    let g : OptionFits q (Some found) = subst (OptionFits q) e f in ((h.0, record { layers = h.1.layers.1; busy = g.1 (bares c) h.1.layers.0 }), g.0)
+
+awaited_fits : (kind : Ask) (tag : ℕ) (d : Context) → waits d ≡ false → FocusFits (focus.Wait (awaited kind tag)) d
+awaited_fits question.String tag d e = e
+awaited_fits question.YesNo tag d e = e
+
+carries_facts : (k : ℕ) → Carries (facts k)
+carries_facts k = record {
+  passes = λ n h. h;
+  redex = λ n h. h;
+  place = λ n h. h;
+  value = λ v. tt;
+  bare = λ n. tt;
+  whole = body_fits;
+  part = look_fits;
+  gives = λ n o h. record { layers = h.0.1.layers; redex = h.0.1.busy };
+  lays = λ n ps found h. still k n (lays n ps found) h.0.0 (lays_fits n ps found h.0.1 h.1 h.2);
+  resumes = λ n q c v found e h. resumed_place k n q c (resumed q v) found e (resumed_fits q v) h;
+  exits = exits_fit k;
+  aborts = λ n h. (h.0, h.1.layers, abort_fits n.context);
+  debugs = λ n condition e h. still k n (opens n condition) h.0 (opens_fits n condition h.1);
+  breaks = λ n o e h g. still k n (opens (offering n o) interrupted) h.0 (opens_fits (offering n o) interrupted (record { layers = (h.1.busy, h.1.layers); busy = refl }));
+  exhausts = λ n h. still k n (exhausted n) h.0 (exhausted_place n h.1);
+  turns = λ n i cleanup c o h g. (h.0, record { layers = h.1.layers; busy = refl });
+  keeps = λ n i c o h. ((h.0, record { layers = h.1.layers.1; busy = h.1.layers.0 }), tt);
+  leaves = λ n i c target b h. (h.0, h.1.layers.1, h.1.layers.0.1);
+  replies = λ n at id form c r h g e. record { layers = h.1.layers.1; redex = h.1.layers.0 };
+  protects = λ n space cleanup e h. (h.0, record { layers = (h.1.busy, h.1.layers); busy = refl });
+  protects_value = λ n v cleanup h. record { layers = (h.1.busy, h.1.layers); redex = refl };
+  asks = λ n space kind text e h. record { layers = (h.1.busy, h.1.layers); redex = awaited_fits kind n.tag (frame.Ask kind n.tag ∷ bares n.context) refl };
+  closes = λ n h. record { layers = h.1.layers; redex = h.1.busy };
+  waits = λ n q h. record { layers = h.1; redex = redex_stands k (focus.Wait q) (bares n.context) h.2 };
+  begins = λ n q i form package' thread id e h.
+      let d : Context = frame.Rex i id form ∷ bares n.context in
+      let awaited = request_awaited q form package' thread id (bares n.context) (first_is_accepted q n.mailbox (i, mail.Rex form package' thread id) e) h.2 in
+      ((h.0, record { layers = (awaited, h.1); busy = refl }), package_fits (binds_package form) (bound_package n.image package') d refl, refl);
+  answers = λ n q i m e a h. (h.0, record { layers = h.1; busy = answer_awaited q m (bares n.context) (first_is_accepted q n.mailbox (i, m) e) a h.2 });
+  hears = λ n q i m e a h. absurd (none_awaited q m (first_is_accepted q n.mailbox (i, m) e) a);
+}
+
+end_asks : (n : Now) (e : End) → EndFits known e (bares n.context) → Asked (facts n.most) e n
+end_asks n (end.Goes ps found) h = ((refl, placed h.0), h.1 tt, h.2)
+end_asks n (end.Gives o) h = ((refl, placed h), tt)
+end_asks n (end.Raises condition) h = ((refl, placed h), (h.busy tt, tt), refl)
+end_asks n (end.Resumes f) h = record { layers = (h tt).0; redex = redex_stands n.most f (bares n.context) (h tt).1 }
+end_asks n (end.Passes o) h = ((refl, placed h.0), tt, tt)
+end_asks n (end.Protects e cleanup) h = (refl, placed h)
+end_asks n (end.Asks kind text) h = (refl, placed h)
+end_asks n (end.Opens condition) h = (refl, placed h)
+end_asks n (end.Breaks o) h = ((refl, placed h), tt)
+end_asks n (end.Exits x) h = (refl, h.0 tt, h.1)
+end_asks n (end.Takes p) h = (refl, (h tt).0, (h tt).1)
+end_asks n end.Closes h = (refl, placed h)
 
 -- the place after an assignment
 pub sets_same : (n : Now) (x : Symbol) (v : Value) (o : Option Context) → SameBares n.context o → bares (sets_or n x v o).context ≡ bares n.context
@@ -273,23 +294,8 @@ bares-outward (frame.Rex i id form ∷ c) = refl
 bares-outward (frame.Sldb m condition again ∷ c) = refl
 bares-outward (frame.Ask kind tag ∷ c) = refl
 
-end_fits : (n : Now) (e : End) → EndFits known e (bares n.context) → Sound n (carried n e)
-end_fits n (end.Goes ps found) h = goes_fits n ps found (placed h.0) (h.1 tt) h.2
-end_fits n (end.Gives o) h = gives_fits n o (placed h)
-end_fits n (end.Raises condition) h =
-    lays_fits n (plain.Before (focus.Enter condition) ∷ []) (Here (focus.Signal condition)) (placed h) (h.busy tt, tt) refl
-end_fits n (end.Resumes f) h = record { layers = (h tt).0; redex = redex_stands n.most f (bares n.context) (h tt).1 }
-end_fits n (end.Passes o) h = passes_fits n n.context o (placed h.0)
-end_fits n (end.Protects e cleanup) h = protects_fits n (room n.context) e cleanup (placed h)
-end_fits n (end.Asks kind text) h = asks_fits n (room n.context) kind text (placed h)
-end_fits n (end.Opens condition) h = enters_fits n (may_open n.most n.context) condition (placed h)
-end_fits n (end.Breaks o) h = breaks_fits n (may_open n.most n.context) o (placed h)
-end_fits n (end.Exits x) h = exits_fits n x.target x.bring (h.0 tt) h.1
-end_fits n (end.Takes p) h = takes_fits n p (first_accepted p n.mailbox) refl (h tt).0 (h tt).1
-end_fits n end.Closes h = record { layers = h.layers tt; redex = h.busy tt }
-
 pub perform_fits : (n : Now) (a : Act) → ActFits known a (bares n.context) → Sound n (perform n a)
-perform_fits n (act.Ends e) h = end_fits n e h
+perform_fits n (act.Ends e) h = carries (facts n.most) (carries_facts n.most) n e (end_asks n e h)
 perform_fits n (act.Outward a) h = perform_fits (around n (outward n.context)) a (subst (λ d. ActFits known a d) (sym (bares-outward n.context)) h)
 perform_fits n (act.Writes ws a) h = perform_fits (tells n (map written ws)) a h
 perform_fits n (act.Changes image a) h = perform_fits (record n { image = image }) a h

@@ -1,7 +1,6 @@
 -- The layers of a term stay within their limit.
 use Rattle.std.proofs.Common.{◌≡◌, ℕ, zero, suc, ◌+◌, ◌<◌, ◌≤◌, Bool, true, false, List, [], ◌∷◌, Option, Some, None, refl, ap, arith}
 use Rattle.std.proofs.lemmas.Bool.{leb-true, leb-false}
-use Rattle.lisp_data.specs.declared.value.Value.{Value}
 use Rattle.lisp_data.specs.declared.value.Condition.{Condition}
 use Rattle.lisp_errors.specs.Causes.{stack_exhausted}
 use Rattle.term_model.specs.declared.focus.Focus.{Focus}
@@ -9,17 +8,15 @@ use Rattle.term_model.specs.declared.focus.Focus.TheVariants as focus
 use Rattle.term_model.specs.declared.found.Found.{Found}
 use Rattle.term_model.specs.declared.found.Found.TheVariants.{Already, Here, Inside}
 use Rattle.term_model.specs.declared.frame.Frame.TheVariants as frame
-use Rattle.term_model.specs.declared.kept.Outcome.{Outcome}
-use Rattle.term_model.specs.declared.kept.Outcome.TheVariants as outcome
 use Rattle.term_model.specs.declared.plain.Plain.{Plain}
 use Rattle.term_model.specs.declared.plain.Plain.TheVariants as plain
 use Rattle.term_model.specs.Breaks.{may_open}
-use Rattle.term_model.specs.GoingIn.{look, resumed}
+use Rattle.term_model.specs.GoingIn.{look}
 use Rattle.term_model.specs.Room.{enter, is_within, layers, levels, limit, room, wrap}
 use Rattle.term_model.specs.Term.{Context}
 use Rattle.step_model.specs.Facts.{bares}
 use Rattle.step_model.specs.Now.{Now, around}
-use Rattle.step_model.specs.Perform.{cut_off, exhausted_if, given, gives, gives_in, goes, laid, lays, lays_if, opens}
+use Rattle.step_model.specs.Perform.{cut_off, exhausted_if, laid, lays, lays_if, opens}
 use Rattle.step_model.specs.Rooms.{HasRoom, LayersRoom, RedexRoom, extra, is_offering, number_if}
 use Rattle.step_model.proofs.BareLemmas.{length-bares, levels-bares}
 
@@ -123,24 +120,7 @@ lays_if_room n false ps found e h g =
 pub lays_room : (n : Now) (ps : List Plain) (found : Found) → LayersRoom (bares n.context) → layers (bares n.context) ≤ limit (levels (bares n.context)) + cushion (bares n.context) → Roomy (lays n ps found)
 lays_room n ps found h g = lays_if_room n (is_within n.context) ps found refl h g
 
-given_room : (n : Now) (p : Plain) (c : Context) (v : Value) (o : Option Found) → LayersRoom (bares (frame.On p ∷ c)) → layers (bares (frame.On p ∷ c)) ≤ limit (levels (bares (frame.On p ∷ c))) + 1 → Roomy (given n p c v o)
-given_room n p c v (Some found) h g = lays_room (around n c) [] found h.1 (omega arith)
-given_room n p c v None h g = record { layers = h; redex = g }
-
-gives_in_room : (n : Now) (c : Context) (o : Outcome) → LayersRoom (bares c) → layers (bares c) ≤ limit (levels (bares c)) + 1 → Roomy (gives_in n c o)
-gives_in_room n (frame.On p ∷ c) (outcome.Value v) h g = given_room n p c v (resumed p v) h g
-gives_in_room n (frame.On p ∷ c) (outcome.Reply r) h g = record { layers = h; redex = g }
-gives_in_room n [] o h g = record { layers = h; redex = g }
-gives_in_room n (frame.Protect k cleanup ∷ c) o h g = record { layers = h; redex = g }
-gives_in_room n (frame.Cleanup k kept ∷ c) o h g = record { layers = h; redex = g }
-gives_in_room n (frame.Rex i id form ∷ c) o h g = record { layers = h; redex = g }
-gives_in_room n (frame.Sldb m condition again ∷ c) o h g = record { layers = h; redex = g }
-gives_in_room n (frame.Ask kind tag ∷ c) o h g = record { layers = h; redex = g }
-
-pub gives_room : (n : Now) (o : Outcome) → LayersRoom (bares n.context) → layers (bares n.context) ≤ limit (levels (bares n.context)) + 1 → Roomy (gives n o)
-gives_room n o h g = gives_in_room n n.context o h g
-
-few_cushion : (d : Context) → cushion d ≤ 1
+pub few_cushion : (d : Context) → cushion d ≤ 1
 few_cushion [] = omega arith
 few_cushion (frame.Cleanup k kept ∷ d) = omega arith
 few_cushion (frame.On p ∷ d) = omega arith
@@ -148,9 +128,3 @@ few_cushion (frame.Protect k cleanup ∷ d) = omega arith
 few_cushion (frame.Rex i id form ∷ d) = omega arith
 few_cushion (frame.Sldb n condition again ∷ d) = omega arith
 few_cushion (frame.Ask kind tag ∷ d) = omega arith
-
-pub goes_room : (n : Now) (ps : List Plain) (found : Found) → LayersRoom (bares n.context) → layers (bares n.context) ≤ limit (levels (bares n.context)) + cushion (bares n.context) → Roomy (goes n ps found)
-goes_room n [] (Already v) h g = gives_room n (outcome.Value v) h (omega (arith, few_cushion (bares n.context)))
-goes_room n [] (Here f) h g = lays_room n [] (Here f) h g
-goes_room n [] (Inside p e) h g = lays_room n [] (Inside p e) h g
-goes_room n (p ∷ ps) found h g = lays_room n (p ∷ ps) found h g
