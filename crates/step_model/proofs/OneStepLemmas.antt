@@ -16,10 +16,14 @@ use Rattle.lisp_builtins.specs.declared.op.Op.TheVariants as op
 use Rattle.lisp_builtins.specs.declared.signature.Any.TheVariants as any
 use Rattle.lisp_builtins.specs.declared.signature.Both.TheVariants as both
 use Rattle.lisp_builtins.specs.declared.signature.Part.{Part}
+use Rattle.lisp_builtins.specs.declared.signature.Part.TheVariants as part
 use Rattle.lisp_builtins.specs.declared.signature.Several.{Several}
 use Rattle.lisp_builtins.specs.declared.signature.Several.TheVariants as several
 use Rattle.lisp_builtins.specs.declared.signature.Single.{Single}
+use Rattle.lisp_builtins.specs.declared.signature.Single.TheVariants as single
 use Rattle.lisp_builtins.specs.declared.signature.Total.{Total}
+use Rattle.lisp_builtins.specs.declared.signature.Total.TheVariants as total
+use Rattle.lisp_numbers.specs.declared.order.Relation.TheVariants as relation
 use Rattle.lisp_data.specs.Symbols.{cl, is_of_common_lisp, names}
 use Rattle.lisp_data.specs.declared.symbol.Symbol.{Symbol}
 use Rattle.lisp_data.specs.declared.value.Value.{Value}
@@ -111,43 +115,43 @@ Alike o = (p q : List ℕ) (vs : List Value) → Agree (builtins.outcome o vs p)
 
 plus : Alike op.Plus
 unfolding builtins.outcome
-plus p q vs = within _ _ (integers_agree _ p q vs)
+plus p q vs = within _ _ (integers_agree total.Sum p q vs)
 
 minus : Alike op.Minus
 unfolding builtins.outcome
-minus p q vs = within _ _ (some_agree _ op.Minus p q vs)
+minus p q vs = within _ _ (some_agree several.Difference op.Minus p q vs)
 
 times : Alike op.Times
 unfolding builtins.outcome
-times p q vs = within _ _ (integers_agree _ p q vs)
+times p q vs = within _ _ (integers_agree total.Product p q vs)
 
 one_plus : Alike op.OnePlus
 unfolding builtins.outcome
-one_plus p q vs = within _ _ (one_agree _ op.OnePlus p q vs)
+one_plus p q vs = within _ _ (one_agree single.Successor op.OnePlus p q vs)
 
 one_minus : Alike op.OneMinus
 unfolding builtins.outcome
-one_minus p q vs = within _ _ (one_agree _ op.OneMinus p q vs)
+one_minus p q vs = within _ _ (one_agree single.Predecessor op.OneMinus p q vs)
 
 equal : Alike op.NumbersEqual
 unfolding builtins.outcome
-equal p q vs = within _ _ (some_agree _ op.NumbersEqual p q vs)
+equal p q vs = within _ _ (some_agree (several.Compare relation.Equal) op.NumbersEqual p q vs)
 
 less : Alike op.Less
 unfolding builtins.outcome
-less p q vs = within _ _ (some_agree _ op.Less p q vs)
+less p q vs = within _ _ (some_agree (several.Compare relation.Less) op.Less p q vs)
 
 greater : Alike op.Greater
 unfolding builtins.outcome
-greater p q vs = within _ _ (some_agree _ op.Greater p q vs)
+greater p q vs = within _ _ (some_agree (several.Compare relation.Greater) op.Greater p q vs)
 
 at_most : Alike op.AtMost
 unfolding builtins.outcome
-at_most p q vs = within _ _ (some_agree _ op.AtMost p q vs)
+at_most p q vs = within _ _ (some_agree (several.Compare relation.AtMost) op.AtMost p q vs)
 
 at_least : Alike op.AtLeast
 unfolding builtins.outcome
-at_least p q vs = within _ _ (some_agree _ op.AtLeast p q vs)
+at_least p q vs = within _ _ (some_agree (several.Compare relation.AtLeast) op.AtLeast p q vs)
 
 is_null : Alike op.Null
 unfolding builtins.outcome
@@ -163,11 +167,11 @@ is_eq p q vs = within _ _ (same_agree op.Eq p q vs)
 
 car : Alike op.Car
 unfolding builtins.outcome
-car p q vs = within _ _ (part_agree _ op.Car p q vs)
+car p q vs = within _ _ (part_agree (part.Item 0) op.Car p q vs)
 
 cdr : Alike op.Cdr
 unfolding builtins.outcome
-cdr p q vs = within _ _ (part_agree _ op.Cdr p q vs)
+cdr p q vs = within _ _ (part_agree part.Rest op.Cdr p q vs)
 
 -- ---- a symbol that is listed
 
@@ -189,24 +193,23 @@ AreSteady [] = Unit {0}
 AreSteady (name ∷ more) = IsSteady (cl name) × AreSteady more
 
 all_steady : AreSteady listed_functions
-all_steady = (
-  steady (cl (codes "+")) op.Plus refl plus,
-  steady (cl (codes "-")) op.Minus refl minus,
-  steady (cl (codes "*")) op.Times refl times,
-  steady (cl (codes "1+")) op.OnePlus refl one_plus,
-  steady (cl (codes "1-")) op.OneMinus refl one_minus,
-  steady (cl (codes "=")) op.NumbersEqual refl equal,
-  steady (cl (codes "<")) op.Less refl less,
-  steady (cl (codes ">")) op.Greater refl greater,
-  steady (cl (codes "<=")) op.AtMost refl at_most,
-  steady (cl (codes ">=")) op.AtLeast refl at_least,
-  steady (cl (codes "NULL")) op.Null refl is_null,
-  steady (cl (codes "NOT")) op.Not refl is_not,
-  steady (cl (codes "EQ")) op.Eq refl is_eq,
-  steady (cl (codes "CAR")) op.Car refl car,
-  steady (cl (codes "CDR")) op.Cdr refl cdr,
-  tt,
-)
+all_steady =
+    (steady (cl (codes "+")) op.Plus refl plus,
+    (steady (cl (codes "-")) op.Minus refl minus,
+    (steady (cl (codes "*")) op.Times refl times,
+    (steady (cl (codes "1+")) op.OnePlus refl one_plus,
+    (steady (cl (codes "1-")) op.OneMinus refl one_minus,
+    (steady (cl (codes "=")) op.NumbersEqual refl equal,
+    (steady (cl (codes "<")) op.Less refl less,
+    (steady (cl (codes ">")) op.Greater refl greater,
+    (steady (cl (codes "<=")) op.AtMost refl at_most,
+    (steady (cl (codes ">=")) op.AtLeast refl at_least,
+    (steady (cl (codes "NULL")) op.Null refl is_null,
+    (steady (cl (codes "NOT")) op.Not refl is_not,
+    (steady (cl (codes "EQ")) op.Eq refl is_eq,
+    (steady (cl (codes "CAR")) op.Car refl car,
+    (steady (cl (codes "CDR")) op.Cdr refl cdr,
+    tt)))))))))))))))
 
 -- a symbol of that name is that of COMMON-LISP
 named_is : (g : Symbol) (name : List ℕ) → names g name ≡ true → g ≡ cl name

@@ -130,7 +130,7 @@ decide rules c focus.Rpc = Beyond (λ n. commanded n (rules.command (asked n)))
 decide rules c (focus.Forms forms origin) = Beyond (λ n. forms_row n forms origin)
 
 -- the row of a redex
-abbrev pub row : Now → Focus → Act
+abbrev pub row : Rules → Now → Focus → Act
 row rules n f = decided n (decide rules n.context f)
 
 -- the same, where the thread's term alone decides it
