@@ -7,6 +7,7 @@ use Rattle.std.specs.Fmt.{decimal}
 use Rattle.std.proofs.lemmas.Fmt.{length-decimal-le}
 use Rattle.lisp_data.specs.declared.sexp.Sexp.{Sexp}
 use Rattle.lisp_data.specs.declared.sexp.Sexp.TheVariants as form
+use Rattle.lisp_errors.specs.Limits.{max_weight}
 use Rattle.rpc_messages.specs.declared.to_emacs.Returned.TheVariants as returned
 use Rattle.rpc_messages.specs.declared.to_emacs.ToEmacs.TheVariants as message
 use Rattle.sexp_printer.specs.Printed.{printed}
@@ -20,10 +21,6 @@ max_reply = 16777000
 
 abbrev pub IsShortReply : Sexp → Type 0
 IsShortReply reply = length (printed reply) ≤ max_reply
-
--- how many octets a text has at most that is written to the user
-abbrev pub max_text : ℕ
-max_text = 2 ^ 20
 
 small_id : (id : ℤ) → FitsSigned w64 id → mag id < 2 ^ 63
 small_id id h = h.sfits
@@ -64,7 +61,7 @@ fault_fits packet text h k =
     let all = list-length (sym_then (codes ":READER-ERROR") refl (str_then packet (str_then text none))) in
     record { text = omega (arith, all, h, k); numbers = tt }
 
-pub text_fits : (text : List ℕ) (repl_result : Bool) → length text ≤ max_text → FitsPacket (message.WriteString text repl_result)
+pub text_fits : (text : List ℕ) (repl_result : Bool) → length text ≤ max_weight → FitsPacket (message.WriteString text repl_result)
 text_fits text true h =
     let all = list-length (sym_then (codes ":WRITE-STRING") refl (str_then text (sym_then (codes ":REPL-RESULT") refl none))) in
     record { text = omega (arith, all, h); numbers = tt }

@@ -26,7 +26,7 @@ use Rattle.sexp_reader.specs.declared.placed.Placed.{Placed}
 use Rattle.server_info.specs.Info as info
 use Rattle.step_model.specs.CurrentPackage.{global_package, named_by, package_of, package_variable, user_package}
 use Rattle.step_model.specs.Image.{ImageState, global, with_global}
-use Rattle.step_model.specs.Rules.{Writing, Output, NewPackage}
+use Rattle.step_model.specs.Rules.{NewPackage}
 use Rattle.swank_rpc.specs.Calls.{first_text, is_too_heavy, parts}
 use Rattle.swank_rpc.specs.Commands.{Given, Replies, RepliesIn, Refuses, Evaluates, called, called_by, called_in, evaluated, full_name, row, set_to, with_text}
 use Rattle.swank_rpc.specs.Finishes.{Ended, ended, ended_by, function_called, new_package, replies_text, replies_value, writes_text, writes_value}
@@ -37,9 +37,9 @@ use Rattle.swank_rpc.specs.Names.{function_of}
 use Rattle.swank_rpc.specs.Texts.{forms_of, no_value, within}
 use Rattle.swank_rpc.specs.declared.function.SwankFunction.{SwankFunction}
 use Rattle.swank_rpc.specs.declared.function.SwankFunction.TheVariants as function
-use Rattle.server_laws.specs.Small.{HasShortNames, max_name}
+use Rattle.server_laws.specs.Small.{AreShortWritings, HasShortNames, max_name}
 use Rattle.server_laws.proofs.Lengths.{Lengths, form_then, length-cut, length-int, length-str, list-length, more, none, str_then, sym_then}
-use Rattle.server_laws.proofs.Messages.{IsShortReply, max_text}
+use Rattle.server_laws.proofs.Messages.{IsShortReply}
 use Rattle.server_laws.proofs.Names.{AreShort}
 use Rattle.server_laws.proofs.ShortNames.{name_short, prompt_found, user_short}
 
@@ -189,32 +189,24 @@ called_short form current image h = by_weight (is_too_heavy form)
 weight-string : (text : List ℕ) → weight_of (value.Str text) ≡ 1 + length text
 weight-string text = ap weight_of (sym (rolls-Str text)) ∙ fold-roll-Value ℕ ℕ weight_step condition_weight_step (Value-F.Str text)
 
-light : (text : List ℕ) → is_too_large (value.Str text) ≡ false → length text ≤ max_text
+light : (text : List ℕ) → is_too_large (value.Str text) ≡ false → length text ≤ max_weight
 unfolding is_too_large
 light text e =
     let parts = or_parts (nat_lt max_weight (weight_of (value.Str text))) (nat_lt max_depth (depth_of (value.Str text))) e in
     omega (arith, ltb-false max_weight (weight_of (value.Str text)) parts.0, weight-string text)
 
-abbrev pub IsShortWriting : Writing → Type 0
-IsShortWriting (Output text repl_result) = length text ≤ max_text
-IsShortWriting (NewPackage name prompt) = (length name ≤ max_name) × (length prompt ≤ max_name)
-
-abbrev pub AreShortWritings : List Writing → Type 0
-AreShortWritings [] = Unit {0}
-AreShortWritings (w ∷ ws) = IsShortWriting w × AreShortWritings ws
-
 abbrev pub IsShortEnd : Ended → Type 0
 IsShortEnd (Ok e) = AreShortWritings e.0 × IsShortReply e.1
 IsShortEnd (Err condition) = Unit {0}
 
-within_short : (text : List ℕ) (given : List ℕ → Ended) → (length text ≤ max_text → IsShortEnd (given text)) → IsShortEnd (end.with_text (within text) given)
+within_short : (text : List ℕ) (given : List ℕ → Ended) → (length text ≤ max_weight → IsShortEnd (given text)) → IsShortEnd (end.with_text (within text) given)
 within_short text given h = by_size (is_too_large (value.Str text)) refl
   where
     by_size : (b : Bool) → is_too_large (value.Str text) ≡ b → IsShortEnd (end.with_text (if b then None else Some text) given)
     by_size true e = tt
     by_size false e = h (light text e)
 
-string_short : (text : List ℕ) → length text ≤ max_text → IsShortReply (form.Str text)
+string_short : (text : List ℕ) → length text ≤ max_weight → IsShortReply (form.Str text)
 string_short text h = let s = length-str text in omega (arith, s, h)
 
 value_short : (b : Bool) (v : Value) (current : List ℕ) → IsShortEnd (replies_value b v current)
@@ -228,7 +220,7 @@ package_writing kept image h = by_name (began_in kept (global_package image))
     by_name true = tt
     by_name false = ((global_short image h, prompt_short image h), tt)
 
-written_short : (kept : Sexp) (image : ImageState) (text : List ℕ) → HasShortNames image → length text ≤ max_text → IsShortEnd (writes_text kept image text)
+written_short : (kept : Sexp) (image : ImageState) (text : List ℕ) → HasShortNames image → length text ≤ max_weight → IsShortEnd (writes_text kept image text)
 written_short kept image text h k = ((k, package_writing kept image h), nil_short)
 
 writing_short : (b : Bool) (kept : Sexp) (v : Value) (current : List ℕ) (image : ImageState) → HasShortNames image → IsShortEnd (writes_value b kept v current image)

@@ -2,9 +2,7 @@
 use Rattle.std.proofs.Common.{◌≡◌, ℕ, Bool, true, false, List, [], ◌∷◌, ◌++◌, map, Option, Some, None, Ok, Err, refl, sym, ap, ◌∙◌, subst}
 use Rattle.std.specs.Prelude.{if◌then◌else◌, not, Result}
 use Rattle.std.proofs.lemmas.Bool.{and_parts, false≢true, not-true, true≢false}
-use Rattle.lisp_data.specs.declared.sexp.Sexp.TheViews.{out-Sexp}
 use Rattle.lisp_data.specs.declared.value.Value.{Value}
-use Rattle.lisp_data.specs.declared.value.Value as value
 use Rattle.lisp_packages.specs.Naming.{in_named, valued}
 use Rattle.lisp_packages.specs.declared.fault.NameFault.{NameFault}
 use Rattle.lisp_packages.specs.declared.lisp_package.Package.{Package}
@@ -25,8 +23,8 @@ use Rattle.term_model.specs.declared.focus.Focus.{Focus}
 use Rattle.term_model.specs.declared.focus.Focus.TheVariants as focus
 use Rattle.term_model.specs.declared.focus.Origin.{Origin}
 use Rattle.term_model.specs.declared.found.Found.{Found}
-use Rattle.term_model.specs.declared.found.Found.TheVariants.{Already, Here, Inside}
 use Rattle.term_model.specs.declared.frame.Frame.TheVariants as frame
+use Rattle.term_model.specs.declared.kept.Bring.TheVariants as bring
 use Rattle.term_model.specs.declared.kept.Leaving.{Leaving}
 use Rattle.term_model.specs.declared.kept.Outcome.{Outcome}
 use Rattle.term_model.specs.declared.kept.Outcome.TheVariants as outcome
@@ -34,8 +32,11 @@ use Rattle.term_model.specs.declared.plain.Plain.{Plain}
 use Rattle.term_model.specs.declared.plain.Plain.TheVariants as plain
 use Rattle.term_model.specs.GoingIn.{resumed}
 use Rattle.term_model.specs.Label.{Label, messages_in}
+use Rattle.term_model.specs.Breaks.{may_open}
+use Rattle.term_model.specs.Exit.{stir}
 use Rattle.term_model.specs.Restarts.{nothing_at}
 use Rattle.term_model.specs.Room.{is_within}
+use Rattle.term_model.specs.Search.{layer_at}
 use Rattle.term_model.specs.Term.{Context}
 use Rattle.step_model.specs.Act as act
 use Rattle.step_model.specs.Act.{Act}
@@ -44,10 +45,13 @@ use Rattle.step_model.specs.Decision.{decided}
 use Rattle.step_model.specs.Functions.{with_tree}
 use Rattle.step_model.specs.Kinds.{current, or_refuse}
 use Rattle.step_model.specs.Now.{Mailbox, Now, around, puts, tells}
-use Rattle.step_model.specs.Perform.{answer_in, carried, exits, given, gives, gives_in, goes, lays, outward, package_bound, passes, perform, takes, takes_mail, took, written}
+use Rattle.step_model.specs.Perform.{after_leaving, lays, outward, package_bound, perform, took, written}
 use Rattle.step_model.specs.Requests.{asked, before_forms, commanded, finished, forms_row, placed_found, resolved}
 use Rattle.step_model.specs.Roles.{role_of}
 use Rattle.step_model.specs.Rules.{Writing, Output, NewPackage}
+use Rattle.step_model.proofs.Carrying.{Asked, Carries, Lands, Property, carries, landing, left_by}
+use Rattle.step_model.proofs.FitLemmas.{FoundFits, OptionFits, body_fits, look_fits, resumed_fits}
+use Rattle.step_model.proofs.RowFits.{placed_found_fits}
 use Rattle.step_model.specs.AsBuilt.{is_built, is_raise, is_row_built, limited, step_as_built}
 use Rattle.step_model.specs.Step.{begun}
 use Rattle.step_model.specs.Table.{given_row, row}
@@ -57,13 +61,14 @@ use Rattle.server_rules.specs.Going.{entered, laid_in}
 use Rattle.server_rules.specs.Leaving.{left_all}
 use Rattle.server_rules.specs.Built.{built, has_row}
 use Rattle.server_rules.specs.Rules.{rules}
-use Rattle.server_rules.proofs.GoingSimple.{IsSimpleFound, lays-simple, resumed_simple}
-use Rattle.server_rules.proofs.SimpleLemmas.{abort_exit-simple, exits_to_top}
-use Rattle.server_rules.proofs.StepSimple.{built_step, placed_simple, unbuilt_step}
-use Rattle.server_laws.specs.Small.{FitsPacket, HasShortNames, IsSmall}
+use Rattle.server_rules.proofs.ActsSimple.{leaving_to}
+use Rattle.server_rules.proofs.GoingSimple.{lays-simple}
+use Rattle.server_rules.proofs.SimpleLemmas.{abort_exit-simple, leaves_to_top, may_open-none, stir-none}
+use Rattle.server_rules.proofs.StepSimple.{built_step, unbuilt_step}
+use Rattle.server_laws.specs.Small.{AreShortWritings, FitsPacket, HasShortNames, IsSmall}
 use Rattle.server_laws.proofs.Messages.{abort_fits, package_fits, reply_fits, text_fits}
 use Rattle.server_laws.proofs.Names.{IsShortAnswer, in_named_short, valued_short}
-use Rattle.server_laws.proofs.Replies.{AreShortWritings, IsShortEnd, IsShortGiven, called_short, ended_short}
+use Rattle.server_laws.proofs.Replies.{IsShortEnd, IsShortGiven, called_short, ended_short}
 use Rattle.server_laws.proofs.Terms.{EnteredFits, LayersFit, OutcomeFits, PlainsFit, RedexFits, entered_fits, layers_simple}
 
 abbrev pub Each : List ToEmacs → Type 0
@@ -95,10 +100,21 @@ module _ (Small : Type 0) where
     pub mail : MailFits n.mailbox
     pub labels : AllFit n.labels
 
+  -- the same but for the redex
+  record Stands (n : Now) : Type 0 where
+    names : HasShortNames n.image
+    closed : n.most ≡ 0
+    layers : LayersFit Small n.context
+    mail : MailFits n.mailbox
+    labels : AllFit n.labels
+
+  stands : (n : Now) → Fits n → Stands n
+  stands n h = record { names = h.names; closed = h.closed; layers = h.layers; mail = h.mail; labels = h.labels }
+
   -- ---- acts
 
   abbrev pub EndFits : End → Type 0
-  EndFits (end.Goes ps found) = PlainsFit ps × IsSimpleFound found
+  EndFits (end.Goes ps found) = PlainsFit ps × FoundFits found
   EndFits (end.Gives o) = OutcomeFits o
   EndFits (end.Resumes f) = RedexFits f
   EndFits (end.Passes o) = OutcomeFits o
@@ -106,6 +122,7 @@ module _ (Small : Type 0) where
   EndFits (end.Takes p) = Unit {0}
   EndFits _ = ⊥
 
+  -- what an act writes is short, and so are the names of the image that it leaves
   abbrev pub ActFits : Act → Type 0
   ActFits (act.Ends e) = EndFits e
   ActFits (act.Outward a) = ActFits a
@@ -115,54 +132,20 @@ module _ (Small : Type 0) where
   ActFits _ = ⊥
 
   -- a redex in other layers, with the rest as it is
-  put_fits : (n : Now) (c : Context) (f : Focus) → Fits n → LayersFit Small c → RedexFits f → Fits (puts n c f)
+  put_fits : (n : Now) (c : Context) (f : Focus) → Stands n → LayersFit Small c → RedexFits f → Fits (puts n c f)
   put_fits n c f h g k = record { names = h.names; closed = h.closed; layers = g; redex = k; mail = h.mail; labels = h.labels }
 
-  around_fits : (n : Now) (c : Context) → Fits n → LayersFit Small c → Fits (around n c)
-  around_fits n c h g = record { names = h.names; closed = h.closed; layers = g; redex = h.redex; mail = h.mail; labels = h.labels }
+  around_stands : (n : Now) (c d : Context) → Stands (around n d) → LayersFit Small c → Stands (around n c)
+  around_stands n c d h g = record { names = h.names; closed = h.closed; layers = g; mail = h.mail; labels = h.labels }
 
-  laid_fits : (n : Now) (c : Context) (o : Option Focus) → Fits n → EnteredFits Small (record { around = c; redex = o }) → Fits (laid_in n (record { around = c; redex = o }))
+  laid_fits : (n : Now) (c : Context) (o : Option Focus) → Stands n → EnteredFits Small (record { around = c; redex = o }) → Fits (laid_in n (record { around = c; redex = o }))
   laid_fits n c (Some f) h e = put_fits n c f h e.around e.redex
   laid_fits n c None h e = put_fits n c focus.Abort h e.around tt
 
-  lays_fits : (n : Now) (ps : List Plain) (found : Found) → Fits n → PlainsFit ps → IsSimpleFound found → Fits (lays n ps found)
+  lays_fits : (n : Now) (ps : List Plain) (found : Found) → Stands n → PlainsFit ps → FoundFits found → Fits (lays n ps found)
   lays_fits n ps found h g k =
       let e = entered (is_within n.context) n.context ps found in
       subst Fits (sym (lays-simple n h.closed ps found (layers_simple Small n.context h.layers))) (laid_fits n e.around e.redex h (entered_fits Small (is_within n.context) n.context ps found h.layers g k))
-
-  given_fits : (n : Now) (p : Plain) (c : Context) (v : Value) (o : Option Found) → resumed p v ≡ o → Fits n → LayersFit Small (frame.On p ∷ c) → Fits (given n p c v o)
-  given_fits n p c v None e h g = put_fits n (frame.On p ∷ c) (focus.Given (outcome.Value v)) h g tt
-  given_fits n p c v (Some found) e h g = lays_fits (around n c) [] found (around_fits n c h g.1) tt (resumed_simple p v found e)
-
-  gives_in_fits : (n : Now) (c : Context) (o : Outcome) → Fits n → LayersFit Small c → OutcomeFits o → Fits (gives_in n c o)
-  gives_in_fits n (frame.On p ∷ c) (outcome.Value v) h g k = given_fits n p c v (resumed p v) refl h g
-  gives_in_fits n (frame.On p ∷ c) (outcome.Reply r) h g k = put_fits n (frame.On p ∷ c) (focus.Given (outcome.Reply r)) h g k
-  gives_in_fits n [] o h g k = put_fits n [] (focus.Given o) h g k
-  gives_in_fits n (frame.Rex i id form ∷ c) o h g k = put_fits n (frame.Rex i id form ∷ c) (focus.Given o) h g k
-  gives_in_fits n (frame.Protect j cleanup ∷ c) o h g k = absurd g.0
-  gives_in_fits n (frame.Cleanup j kept ∷ c) o h g k = absurd g.0
-  gives_in_fits n (frame.Sldb j condition again ∷ c) o h g k = absurd g.0
-  gives_in_fits n (frame.Ask kind tag ∷ c) o h g k = absurd g.0
-
-  gives_fits : (n : Now) (o : Outcome) → Fits n → OutcomeFits o → Fits (gives n o)
-  gives_fits n o h k = gives_in_fits n n.context o h h.layers k
-
-  goes_fits : (n : Now) (ps : List Plain) (found : Found) → Fits n → PlainsFit ps → IsSimpleFound found → Fits (goes n ps found)
-  goes_fits n [] (Already v) h g k = gives_fits n (outcome.Value v) h tt
-  goes_fits n [] (Here f) h g k = lays_fits n [] (Here f) h g k
-  goes_fits n [] (Inside p e) h g k = lays_fits n [] (Inside p e) h g k
-  goes_fits n (p ∷ ps) found h g k = lays_fits n (p ∷ ps) found h g k
-
-  passes_fits : (n : Now) (c : Context) (o : Outcome) → Fits n → LayersFit Small c → OutcomeFits o → Fits (passes n c o)
-  passes_fits n [] o h g k = put_fits n [] (focus.Given o) h g k
-  passes_fits n (frame.On p ∷ c) o h g k = put_fits n (frame.On p ∷ c) (focus.Given o) h g k
-  passes_fits n (frame.Rex i id form ∷ c) (outcome.Reply r) h g k =
-      record { names = h.names; closed = h.closed; layers = g.1; redex = tt; mail = h.mail; labels = fit-append n.labels _ h.labels (λ s. (reply_fits id r (g.0 s) k, tt)) }
-  passes_fits n (frame.Rex i id form ∷ c) (outcome.Value v) h g k = put_fits n (frame.Rex i id form ∷ c) (focus.Given (outcome.Value v)) h g tt
-  passes_fits n (frame.Protect j cleanup ∷ c) o h g k = absurd g.0
-  passes_fits n (frame.Cleanup j kept ∷ c) o h g k = absurd g.0
-  passes_fits n (frame.Sldb j condition again ∷ c) o h g k = absurd g.0
-  passes_fits n (frame.Ask kind tag ∷ c) o h g k = absurd g.0
 
   -- ---- taking
 
@@ -190,21 +173,6 @@ module _ (Small : Type 0) where
   package_plains true v = (tt, tt)
   package_plains false v = tt
 
-  taken_fits : (n : Now) (i : ℕ) (m : FromEmacs) → Fits n → (Small → IsSmall m) → Fits (takes_mail n i m)
-  taken_fits n i (mail.Rex form name thread id) h s =
-      lays_fits (around n (frame.Rex i id form ∷ n.context)) (package_bound (binds_package form) (bound_package n.image name)) (Here focus.Rpc)
-      (around_fits n (frame.Rex i id form ∷ n.context) h (s, h.layers)) (package_plains (binds_package form) (bound_package n.image name)) refl
-  taken_fits n i (mail.ReturnString thread tag text) h s = gives_fits n (outcome.Value (value.Str text)) h tt
-  taken_fits n i (mail.Return thread tag form) h s = gives_fits n (outcome.Value (answer_in (out-Sexp form))) h tt
-  taken_fits n i (mail.Interrupt thread) h s = h
-  taken_fits n i (mail.Unreadable packet text) h s = h
-
-  takes_fits : (n : Now) (p : Pattern) (o : Option (ℕ × FromEmacs)) → Fits n → FoundMail o → Fits (takes n p o)
-  takes_fits n p None h k = put_fits n n.context (focus.Wait p) h h.layers tt
-  takes_fits n p (Some m) h k =
-      taken_fits (took n p m.0) m.0 m.1
-      (record { names = h.names; closed = h.closed; layers = h.layers; redex = h.redex; mail = without_fits p n.mailbox h.mail; labels = fit-append n.labels _ h.labels (λ s. tt) }) k
-
   -- ---- leaving
 
   left_fits : (t : ℕ) (c : Context) → LayersFit Small c → AllFit (left_all t c)
@@ -216,17 +184,95 @@ module _ (Small : Type 0) where
   left_fits t (frame.Sldb k condition again ∷ c) h = absurd h.0
   left_fits t (frame.Ask kind tag ∷ c) h = absurd h.0
 
-  exits_fit : (n : Now) (x : Leaving) → x ≡ nothing_at 0 → Fits n → Fits (exits n x.target x.bring)
-  exits_fit n x e h =
-      subst Fits (sym (ap (λ (y : Leaving). exits n y.target y.bring) e ∙ exits_to_top n (layers_simple Small n.context h.layers)))
+  -- ---- a property of threads
+
+  abbrev writes : Property
+  writes = record {
+    inner = λ n. ⊥;
+    passing = Stands;
+    stands = Stands;
+    holds = Stands;
+    done = Fits;
+    markers = λ ps n. PlainsFit ps;
+    form = FoundFits;
+    outcome = OutcomeFits;
+    passed = λ o. Unit {0};
+    exit = λ target b n. Stands n × (leaving_to target b ≡ nothing_at 0);
+    waiting = λ q n. Fits n;
+  }
+
+  -- where an exit comes to
+  abbrev LandsBy : Now → Leaving → Type 0
+  LandsBy n x = Lands writes (landing x.bring (layer_at x.target n.context) (left_by n x.target x.bring).todo) (after_leaving n (left_by n x.target x.bring))
+
+  lands_at_top : (n : Now) → Stands n → LandsBy n (nothing_at 0)
+  lands_at_top n h =
+      let left = left_by n 0 bring.Nothing in
+      let all = leaves_to_top n (layers_simple Small n.context h.layers) in
+      subst (λ todo. Lands writes (landing bring.Nothing (layer_at 0 n.context) todo) (after_leaving n left)) (sym all.todo)
       (record {
         names = h.names;
         closed = h.closed;
-        layers = tt;
+        layers = subst (LayersFit Small) (sym (ap (stir left.stirred) all.around ∙ stir-none left.stirred)) tt;
         redex = tt;
         mail = h.mail;
-        labels = fit-append n.labels (left_all n.thread n.context) h.labels (left_fits n.thread n.context h.layers);
+        labels = fit-append n.labels left.labels h.labels (subst AllFit (sym all.labels) (left_fits n.thread n.context h.layers));
       })
+
+  resumed_stands : (n : Now) (q : Plain) (c : Context) (o : Option Found) (found : Found) → o ≡ Some found → OptionFits q o → Stands (around n (frame.On q ∷ c)) → Stands (around n c) × FoundFits found
+  resumed_stands n q c o found e f h = let g : OptionFits q (Some found) = subst (OptionFits q) e f in (around_stands n c (frame.On q ∷ c) h h.layers.1, g.0)
+
+  took_stands : (n : Now) (q : Pattern) (i : ℕ) → Fits n → Stands (took n q i)
+  took_stands n q i h =
+      record { names = h.names; closed = h.closed; layers = h.layers; mail = without_fits q n.mailbox h.mail; labels = fit-append n.labels _ h.labels (λ s. tt) }
+
+  -- the message that is taken is small
+  found_small : (n : Now) (q : Pattern) (m : ℕ × FromEmacs) → first_accepted q n.mailbox ≡ Some m → Fits n → Small → IsSmall m.1
+  found_small n q m e h = subst FoundMail e (first_fits q n.mailbox h.mail)
+
+  writes_has : Carries writes
+  writes_has = record {
+    passes = λ n h. absurd h;
+    redex = λ n h. h;
+    place = λ n h. h;
+    value = λ v. tt;
+    bare = λ n. tt;
+    whole = body_fits;
+    part = look_fits;
+    gives = λ n o h. put_fits n n.context (focus.Given o) h.0 h.0.layers h.1;
+    lays = λ n ps found h. lays_fits n ps found h.0 h.1 h.2;
+    resumes = λ n q c v found e h. resumed_stands n q c (resumed q v) found e (resumed_fits q v) h;
+    exits = λ n target b h. subst (LandsBy n) (sym h.1) (lands_at_top n h.0);
+    aborts = λ n h. (h, abort_exit-simple n.context (layers_simple Small n.context h.layers));
+    debugs = λ n condition e h. absurd h;
+    breaks = λ n o e h g. absurd (false≢true (sym (ap (λ k. may_open k n.context) h.closed ∙ may_open-none n.context) ∙ e));
+    exhausts = λ n h. absurd h;
+    turns = λ n i cleanup c o h g. absurd h.layers.0;
+    keeps = λ n i c o h. absurd h.layers.0;
+    leaves = λ n i c target b h. absurd h.layers.0;
+    replies = λ n at id form c r h g e.
+        record { names = h.names; closed = h.closed; layers = h.layers.1; redex = tt; mail = h.mail; labels = fit-append n.labels _ h.labels (λ s. (reply_fits id r (h.layers.0 s) g, tt)) };
+    protects = λ n space cleanup e h. absurd h;
+    protects_value = λ n v cleanup h. absurd h;
+    asks = λ n space kind text e h. absurd h;
+    closes = λ n h. absurd h;
+    waits = λ n q h. put_fits n n.context (focus.Wait q) (stands n h) h.layers tt;
+    begins = λ n q i form package' thread id e h.
+        let s : Stands (around (took n q i) (frame.Rex i id form ∷ n.context)) =
+        around_stands (took n q i) (frame.Rex i id form ∷ n.context) n.context (took_stands n q i h) (found_small n q (i, mail.Rex form package' thread id) e h, h.layers) in
+        (s, package_plains (binds_package form) (bound_package n.image package'), refl);
+    answers = λ n q i m e a h. took_stands n q i h;
+    hears = λ n q i m e a h. put_fits (took n q i) n.context n.redex (took_stands n q i h) h.layers h.redex;
+  }
+
+  end_asks : (n : Now) (e : End) → EndFits e → Fits n → Asked writes e n
+  end_asks n (end.Goes ps found) g h = (stands n h, g.0, g.1)
+  end_asks n (end.Gives o) g h = (stands n h, g)
+  end_asks n (end.Resumes f) g h = put_fits n n.context f (stands n h) h.layers g
+  end_asks n (end.Passes o) g h = (stands n h, g, tt)
+  end_asks n (end.Exits x) g h = (stands n h, g)
+  end_asks n (end.Takes p) g h = h
+  end_asks n e g h = absurd g
 
   -- ---- carrying acts out
 
@@ -244,23 +290,9 @@ module _ (Small : Type 0) where
   writings_fit (Output text repl_result ∷ ws) h = λ s. (text_fits text repl_result h.0, writings_fit ws h.1 s)
   writings_fit (NewPackage name prompt ∷ ws) h = λ s. (package_fits name prompt h.0.0 h.0.1, writings_fit ws h.1 s)
 
-  end_fits : (n : Now) (e : End) → EndFits e → Fits n → Fits (carried n e)
-  end_fits n (end.Goes ps found) g h = goes_fits n ps found h g.0 g.1
-  end_fits n (end.Gives o) g h = gives_fits n o h g
-  end_fits n (end.Resumes f) g h = put_fits n n.context f h h.layers g
-  end_fits n (end.Passes o) g h = passes_fits n n.context o h h.layers g
-  end_fits n (end.Exits x) g h = exits_fit n x g h
-  end_fits n (end.Takes p) g h = takes_fits n p (first_accepted p n.mailbox) h (first_fits p n.mailbox h.mail)
-  end_fits n (end.Raises condition) g h = absurd g
-  end_fits n (end.Protects a cleanup) g h = absurd g
-  end_fits n (end.Asks kind text) g h = absurd g
-  end_fits n (end.Opens condition) g h = absurd g
-  end_fits n (end.Breaks o) g h = absurd g
-  end_fits n end.Closes g h = absurd g
-
   perform_fits : (n : Now) (a : Act) → ActFits a → Fits n → Fits (perform n a)
-  perform_fits n (act.Ends e) g h = end_fits n e g h
-  perform_fits n (act.Outward a) g h = perform_fits (around n (outward n.context)) a g (around_fits n (outward n.context) h (outward_fits n.context h.layers))
+  perform_fits n (act.Ends e) g h = carries writes writes_has n e (end_asks n e g h)
+  perform_fits n (act.Outward a) g h = perform_fits (around n (outward n.context)) a g (put_fits n (outward n.context) n.redex (stands n h) (outward_fits n.context h.layers) h.redex)
   perform_fits n (act.Writes ws a) g h =
       perform_fits (tells n (map written ws)) a g.1
       (record { names = h.names; closed = h.closed; layers = h.layers; redex = h.redex; mail = h.mail; labels = fit-append n.labels (map written ws) h.labels (writings_fit ws g.0) })
@@ -290,7 +322,7 @@ module _ (Small : Type 0) where
   tree_fits : (n : Now) (tree : Result Ast Value) (p : Placed) (ps : List Placed) (origin : Option Origin)
       → is_raise (with_tree n tree (λ e. act.Goes (before_forms ps origin) (placed_found e (role_of (row_of e)) origin p.at))) ≡ false
       → ActFits (with_tree n tree (λ e. act.Goes (before_forms ps origin) (placed_found e (role_of (row_of e)) origin p.at)))
-  tree_fits n (Ok e) p ps origin r = (before_fit ps origin, placed_simple e (role_of (row_of e)) origin p.at)
+  tree_fits n (Ok e) p ps origin r = (before_fit ps origin, placed_found_fits e (role_of (row_of e)) origin p.at)
   tree_fits n (Err bad) p ps origin r = absurd (true≢false r)
 
   resolved_fits : (n : Now) (p : Placed) (ps : List Placed) (origin : Option Origin) (named : Result (List Package × Value) NameFault)

@@ -17,9 +17,9 @@ use Rattle.term_model.specs.declared.plain.Plain.TheVariants as plain
 use Rattle.term_model.specs.GoingIn.{look}
 use Rattle.term_model.specs.Room.{Entered, enter, room, wrap}
 use Rattle.term_model.specs.Term.{Context}
+use Rattle.step_model.proofs.FitLemmas.{FoundFits, look_fits, plain_focus}
 use Rattle.server_rules.specs.Going.{entered}
 use Rattle.server_rules.specs.Simple.{are_simple, has_no_restarts}
-use Rattle.server_rules.proofs.GoingSimple.{IsSimpleFound, is_no_outcome, look_simple}
 use Rattle.server_laws.proofs.Messages.{IsShortReply}
 
 abbrev pub OutcomeFits : Outcome → Type 0
@@ -43,7 +43,7 @@ no_restarts : (p : Plain) → PlainFits p → has_no_restarts p ≡ true
 no_restarts (plain.Restarts offers) h = absurd h
 no_restarts p h = refl
 
-no_outcome : (f : Focus) → is_no_outcome f ≡ true → RedexFits f
+no_outcome : (f : Focus) → plain_focus f ≡ true → RedexFits f
 no_outcome (focus.Given o) h = absurd (false≢true h)
 no_outcome f h = tt
 
@@ -75,18 +75,18 @@ module _ (Small : Type 0) where
     pub around : LayersFit e.around
     pub redex : OptionFits e.redex
 
-  enter_fits : (space : ℕ) (c : Context) (found : Found) → LayersFit c → IsSimpleFound found → EnteredFits (enter space c found)
+  enter_fits : (space : ℕ) (c : Context) (found : Found) → LayersFit c → FoundFits found → EnteredFits (enter space c found)
   enter_fits space c (Already v) h k = record { around = h; redex = tt }
   enter_fits space c (Here f) h k = record { around = h; redex = no_outcome f k }
   enter_fits zero c (Inside p e) h k = record { around = h; redex = tt }
-  enter_fits (suc space) c (Inside p e) h k = enter_fits space (frame.On (plain.Form p) ∷ c) (look e) (tt, h) (look_simple e)
+  enter_fits (suc space) c (Inside p e) h k = enter_fits space (frame.On (plain.Form p) ∷ c) (look e) (tt, h) (look_fits e)
 
-  wrap_fits : (space : ℕ) (c : Context) (ps : List Plain) (found : Found) → LayersFit c → PlainsFit ps → IsSimpleFound found → EnteredFits (wrap space c ps found)
+  wrap_fits : (space : ℕ) (c : Context) (ps : List Plain) (found : Found) → LayersFit c → PlainsFit ps → FoundFits found → EnteredFits (wrap space c ps found)
   wrap_fits space c [] found h g k = enter_fits space c found h k
   wrap_fits zero c (p ∷ []) (Already v) h g k = record { around = (g.0, h); redex = tt }
   wrap_fits zero c (p ∷ ps) found h g k = record { around = h; redex = tt }
   wrap_fits (suc space) c (p ∷ ps) found h g k = wrap_fits space (frame.On p ∷ c) ps found (g.0, h) g.1 k
 
-  pub entered_fits : (b : Bool) (c : Context) (ps : List Plain) (found : Found) → LayersFit c → PlainsFit ps → IsSimpleFound found → EnteredFits (entered b c ps found)
+  pub entered_fits : (b : Bool) (c : Context) (ps : List Plain) (found : Found) → LayersFit c → PlainsFit ps → FoundFits found → EnteredFits (entered b c ps found)
   entered_fits true c ps found h g k = wrap_fits (room c) c ps found h g k
   entered_fits false c ps found h g k = record { around = h; redex = tt }

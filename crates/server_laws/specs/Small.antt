@@ -1,8 +1,9 @@
--- What makes the messages of a session fit their packets: package names are short, and what arrives is small.
+-- What makes the messages of a session fit their packets: package names and what acts write are short, and what arrives is small.
 use mir.Syntax.{w64}
 use Rattle.std.specs.Prelude.{ℕ, ◌≤◌, ◌^◌, Bool, ◌&&◌, nat_le, nat_lt, List, [], ◌∷◌, length, FitsSigned, IsTrue}
 use Rattle.std.specs.List.{list_all, list_any}
 use Rattle.std.specs.Str.{bytes_eq}
+use Rattle.lisp_errors.specs.Limits.{max_weight}
 use Rattle.lisp_packages.specs.declared.lisp_package.Package.{Package}
 use Rattle.rpc_messages.specs.declared.from_emacs.FromEmacs.{FromEmacs}
 use Rattle.rpc_messages.specs.declared.from_emacs.FromEmacs.TheVariants as mail
@@ -11,6 +12,7 @@ use Rattle.rpc_messages.specs.Outgoing.{HasSmallNumbers}
 use Rattle.session_model.specs.Wire.{text_of}
 use Rattle.step_model.specs.CurrentPackage.{user_package}
 use Rattle.step_model.specs.Image.{ImageState}
+use Rattle.step_model.specs.Rules.{Writing, Output, NewPackage}
 use Rattle.swank_rpc.specs.Info.{prompt}
 
 -- how many octets a package's name has at most
@@ -32,6 +34,15 @@ are_short ps = nat_lt (length ps) (2 ^ 63) && list_any is_user ps && list_all (i
 -- the packages of the image have short names
 abbrev pub HasShortNames : ImageState → Type 0
 HasShortNames image = IsTrue (are_short image.packages)
+
+-- what an act writes is short: a text weighs no more than a value may, and the name of a new package and its prompt are short
+abbrev pub IsShortWriting : Writing → Type 0
+IsShortWriting (Output text repl_result) = length text ≤ max_weight
+IsShortWriting (NewPackage name prompt) = (length name ≤ max_name) × (length prompt ≤ max_name)
+
+abbrev pub AreShortWritings : List Writing → Type 0
+AreShortWritings [] = Unit {0}
+AreShortWritings (w ∷ ws) = IsShortWriting w × AreShortWritings ws
 
 -- how many octets of an unreadable packet are shown at most: 1,000 characters and three dots
 abbrev pub max_packet : ℕ

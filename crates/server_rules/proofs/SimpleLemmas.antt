@@ -22,6 +22,7 @@ use Rattle.term_model.specs.Restarts.{abort, abort_exit, first_named, invoking, 
 use Rattle.term_model.specs.Room.{levels}
 use Rattle.term_model.specs.Search.{layer_at}
 use Rattle.term_model.specs.Term.{Context}
+use Rattle.step_model.proofs.Carrying.{left_by}
 use Rattle.step_model.specs.Now.{Now, around, puts, tells}
 use Rattle.step_model.specs.Perform.{after_leaving, brings, cut_off, exhausted, exhausted_if, exits, lands}
 use Rattle.step_model.specs.Step.{announced, announced_at}
@@ -112,10 +113,10 @@ pub abort_exit-simple : (c : Context) → are_simple c ≡ true → abort_exit c
 abort_exit-simple c e = ap (λ (rs : List Restart). or_to_top (invoking (first_named abort rs) [] c)) (visible-simple c e)
 
 -- an exit past all layers
-record LeavesAll (t : ℕ) (l : Left) (c : Context) : Type 0 where
-  around : l.around ≡ []
-  labels : l.labels ≡ left_all t c
-  todo : l.todo ≡ None
+pub record LeavesAll (t : ℕ) (l : Left) (c : Context) : Type 0 where
+  pub around : l.around ≡ []
+  pub labels : l.labels ≡ left_all t c
+  pub todo : l.todo ≡ None
 
 leaves_all : (t : ℕ) (exit : Saved) (d : ℕ) (c : Context) → length c ≤ d → are_simple c ≡ true → LeavesAll t (leave t exit d c) c
 leaves_all t exit zero [] h e = record { around = refl; labels = refl; todo = refl }
@@ -135,7 +136,7 @@ leaves_all t exit (suc d) (frame.Ask kind tag ∷ c) h e = absurd (false≢true 
 to_top : (c : Context) → length c ≤ distance 0 c
 to_top c = omega arith
 
-stir-none : (b : Bool) → stir b [] ≡ []
+pub stir-none : (b : Bool) → stir b [] ≡ []
 stir-none true = refl
 stir-none false = refl
 
@@ -150,12 +151,13 @@ arrives n l target all =
     ∙ ap (λ c. brings (tells (around n c) l.labels) bring.Nothing target) (ap (stir l.stirred) all.around ∙ stir-none l.stirred)
     ∙ ap (at_top n) all.labels
 
+pub leaves_to_top : (n : Now) → are_simple n.context ≡ true → LeavesAll n.thread (left_by n 0 bring.Nothing) n.context
+leaves_to_top n e = leaves_all n.thread (saved.Exit 0 bring.Nothing) (distance 0 n.context) n.context (to_top n.context) e
+
 -- the exit to the top
 pub exits_to_top : (n : Now) → are_simple n.context ≡ true
     → exits n 0 bring.Nothing ≡ record (puts (tells n (left_all n.thread n.context)) [] (focus.Wait pattern.Rex)) { over = true }
-exits_to_top n e =
-    let exit = saved.Exit 0 bring.Nothing in
-    arrives n (leave n.thread exit (distance 0 n.context) n.context) (layer_at 0 n.context) (leaves_all n.thread exit (distance 0 n.context) n.context (to_top n.context) e)
+exits_to_top n e = arrives n (left_by n 0 bring.Nothing) (layer_at 0 n.context) (leaves_to_top n e)
 
 -- what it writes
 pub messages-left : (t : ℕ) (c : Context) → messages_in (left_all t c) ≡ aborts c

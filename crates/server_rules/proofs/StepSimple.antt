@@ -1,5 +1,5 @@
 -- A step of a thread whose layers are simple.
-use Rattle.std.proofs.Common.{◌≡◌, ℕ, Bool, true, false, List, [], ◌∷◌, Option, Some, refl, sym, ap, ◌∙◌, subst}
+use Rattle.std.proofs.Common.{◌≡◌, Bool, true, false, List, [], ◌∷◌, Option, refl, sym, ap, ◌∙◌, subst}
 use Rattle.std.specs.Prelude.{◌&&◌, not, Result, Ok, Err}
 use Rattle.std.proofs.lemmas.Bool.{and_parts, false≢true, true≢false, not-true}
 use Rattle.lisp_data.specs.declared.value.Value.{Value}
@@ -25,7 +25,7 @@ use Rattle.step_model.specs.Functions.{with_tree}
 use Rattle.step_model.specs.Kinds.{current, or_refuse}
 use Rattle.step_model.specs.Now.{Now, around}
 use Rattle.step_model.specs.Perform.{exits, perform}
-use Rattle.step_model.specs.Roles.{Role, Definition, role_of}
+use Rattle.step_model.specs.Roles.{role_of}
 use Rattle.step_model.specs.Requests.{asked, before_forms, commanded, finished, forms_row, placed_found, resolved}
 use Rattle.step_model.specs.AsBuilt.{act_if, is_built, is_raise, is_row_built, leaving, limited, step_as_built, step_or_leave}
 use Rattle.step_model.specs.Step.{begun}
@@ -37,7 +37,7 @@ use Rattle.server_rules.specs.Leaving.{left}
 use Rattle.server_rules.specs.Rules.{rules}
 use Rattle.server_rules.specs.Simple.{are_simple}
 use Rattle.server_rules.proofs.ActsSimple.{IsSimpleAct, Keeps, perform_keeps}
-use Rattle.server_rules.proofs.GoingSimple.{ArePlain, IsSimpleFound, look_simple}
+use Rattle.server_rules.proofs.GoingSimple.{ArePlain}
 use Rattle.server_rules.proofs.SimpleLemmas.{abort_exit-simple, exits_to_top, none_announced}
 
 -- ---- rows
@@ -47,7 +47,7 @@ commanded_simple : (n : Now) (g : Given) → is_raise (commanded n (command_of n
 commanded_simple n (Replies reply) e = (refl, tt)
 commanded_simple n (RepliesIn global reply) e = tt
 commanded_simple n (Refuses condition) e = absurd (true≢false e)
-commanded_simple n (Evaluates forms kept) e = ((refl, tt), refl)
+commanded_simple n (Evaluates forms kept) e = (refl, tt)
 
 -- what it says of its forms' value
 finished_simple : (n : Now) (v : Value) (e : Ended) → is_raise (finished n v (finish_of n.inspected e)) ≡ false → IsSimpleAct n.inspected (finished n v (finish_of n.inspected e))
@@ -58,15 +58,10 @@ before_plain : (ps : List Placed) (origin : Option Origin) → ArePlain (before_
 before_plain [] origin = tt
 before_plain (p ∷ ps) origin = (refl, tt)
 
--- the form of a text, with its place where it defines a function
-pub placed_simple : (a : Ast) (x : Role) (origin : Option Origin) (at : ℕ) → IsSimpleFound (placed_found a x origin at)
-placed_simple a (Definition g ps) (Some origin) at = refl
-placed_simple a x origin at = look_simple a
-
 tree_simple : (n : Now) (tree : Result Ast Value) (p : Placed) (ps : List Placed) (origin : Option Origin) (vs : List Value)
     → is_raise (with_tree n tree (λ e. Goes (before_forms ps origin) (placed_found e (role_of (row_of e)) origin p.at))) ≡ false
     → IsSimpleAct vs (with_tree n tree (λ e. Goes (before_forms ps origin) (placed_found e (role_of (row_of e)) origin p.at)))
-tree_simple n (Ok e) p ps origin vs r = (before_plain ps origin, placed_simple e (role_of (row_of e)) origin p.at)
+tree_simple n (Ok e) p ps origin vs r = before_plain ps origin
 tree_simple n (Err bad) p ps origin vs r = absurd (true≢false r)
 
 resolved_simple : (n : Now) (p : Placed) (ps : List Placed) (origin : Option Origin) (named : Result (List Package × Value) NameFault)
@@ -75,7 +70,7 @@ resolved_simple n p ps origin (Ok found) r = tree_simple n (parsed found.1) p ps
 resolved_simple n p ps origin (Err why) r = absurd (true≢false r)
 
 forms_simple : (n : Now) (forms : List Placed) (origin : Option Origin) → is_raise (forms_row n forms origin) ≡ false → IsSimpleAct n.inspected (forms_row n forms origin)
-forms_simple n [] origin r = (tt, tt)
+forms_simple n [] origin r = tt
 forms_simple n (p ∷ ps) origin r = resolved_simple n p ps origin (in_named n.image.packages (current n) (λ i. valued i p.form n.image.packages)) r
 
 -- an outcome

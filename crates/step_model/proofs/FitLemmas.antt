@@ -40,8 +40,9 @@ pub record Place (d : Context) : Type 0 where
   pub layers : LayersFit d
   pub busy : waits d ≡ false
 
--- redexes and layers that fit every such place
+-- redexes but outcomes, and layers, that fit every such place
 abbrev pub plain_focus : Focus → Bool
+plain_focus (focus.Given o) = false
 plain_focus (focus.Wait p) = false
 plain_focus (focus.SignalPast condition p j) = false
 plain_focus focus.Abort = false
@@ -58,12 +59,14 @@ FoundFits (Already v) = Unit {0}
 FoundFits (Inside p e) = Unit {0}
 
 pub focus_fits : (f : Focus) (d : Context) → plain_focus f ≡ true → waits d ≡ false → FocusFits f d
+focus_fits (focus.Given o) d e w = absurd (false≢true e)
 focus_fits (focus.Wait p) d e w = absurd (false≢true e)
 focus_fits (focus.SignalPast condition p j) d e w = absurd (false≢true e)
 focus_fits focus.Abort d e w = absurd (false≢true e)
 focus_fits f d e w = w
 
 before_fits : (f : Focus) (d : Context) → plain_focus f ≡ true → waits d ≡ false → LayerFits (frame.On (plain.Before f)) d
+before_fits (focus.Given o) d e w = absurd (false≢true e)
 before_fits (focus.Wait p) d e w = absurd (false≢true e)
 before_fits (focus.SignalPast condition p j) d e w = absurd (false≢true e)
 before_fits focus.Abort d e w = absurd (false≢true e)
@@ -190,11 +193,6 @@ pub lays_fits : (n : Now) (ps : List Plain) (found : Found) → Place (bares n.c
 lays_fits n ps found place g h = lays_if_fits n (is_within n.context) ps found place g h
 
 -- ---- giving
-
-is_before : Plain → Bool
-is_before (plain.Before f) = true
-is_before (plain.Handling p j) = true
-is_before _ = false
 
 -- what a layer becomes with its value
 abbrev pub OptionFits : Plain → Option Found → Type 0

@@ -114,12 +114,12 @@ finished_row n place v (rules_of.Fails condition) = place
 finished_row n place v (rules_of.LeavesFrame i) =
     frame_row n place i (requests.leaves_frame v) (λ f h. call_row n place f.shown f.layer _ h (λ c. (place.layers, (c.0, call_takes_value (layer_at f.layer (There n)) c.1))))
 
-placed_found_fits : (a : Ast) (x : Role) (o : Option Origin) (k : ℕ) → FoundFits (requests.placed_found a x o k)
+pub placed_found_fits : (a : Ast) (x : Role) (o : Option Origin) (k : ℕ) → FoundFits (requests.placed_found a x o k)
 placed_found_fits a (Definition g ps) (Some origin) k = refl
 placed_found_fits a (Definition g ps) None k = look_fits a
 placed_found_fits a x o k = look_fits a
 
-before_forms_fit : (ps : List Placed) (o : Option Origin) (d : Context) → waits d ≡ false → PlainsFit (requests.before_forms ps o) d
+pub before_forms_fit : (ps : List Placed) (o : Option Origin) (d : Context) → waits d ≡ false → PlainsFit (requests.before_forms ps o) d
 before_forms_fit [] o d e = tt
 before_forms_fit (p ∷ ps) o d e = (e, tt)
 
