@@ -2,7 +2,6 @@ pub mod LevelLemmas
 pub mod StackLemmas
 pub mod RowLemmas
 pub mod StepLemmas
-pub mod NearestLemmas
 pub mod PartLemmas
 pub mod LeavingLemmas
 pub mod FormLemmas

@@ -6,7 +6,6 @@ ghost use Rattle.step_model.specs.CurrentPackage.{current_package, named_by, pac
 ghost use Rattle.step_model.specs.Image.{global};
 ghost use Rattle.term_model.specs.Variables.{dynamic};
 
-use crate::nearest::dynamic;
 use lisp_data::{NoMemory, Symbol, Text, Value};
 use lisp_frames::Stack;
 use lisp_image::Image;
@@ -47,7 +46,7 @@ fn package_named_by(alloc: Global, packages: &Packages, value: &Value) -> Result
 fn value_now<'a>(stack: &'a Stack, image: &'a Image, variable: &Symbol) -> Option<&'a Value>
     ensures { option_copied result ≡ option_or (dynamic variable.now stack.now.context) (global image.now variable.now) }
 {
-    match dynamic(stack, variable) {
+    match stack.dynamic(variable) {
         Some(value) => Some(value),
         None => image.global(variable),
     }

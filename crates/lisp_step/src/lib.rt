@@ -11,7 +11,6 @@ mod forms;
 mod going;
 mod leaving;
 mod machine;
-mod nearest;
 mod outcomes;
 mod requests;
 mod task;

@@ -1,6 +1,6 @@
 use Rattle.std.proofs.Common.{◌≡◌, ◌≤◌, length, reverse, take}
-use Rattle.lisp_control.specs.Targets.{nearest_sought}
-use Rattle.lisp_control.proofs.targets.nearest.Given as goal
+use Rattle.lisp_frames.specs.Seeking.{nearest_sought}
+use Rattle.lisp_frames.proofs.look_ups.nearest.Given as goal
 
 -- what is left to search has the same answer
 abbrev pub invariant-layers : goal.invariant-layers
