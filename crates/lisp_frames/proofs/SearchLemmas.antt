@@ -5,7 +5,6 @@ use Rattle.std.specs.Borrow.{Bor}
 use Rattle.std.specs.Prelude.{if◌then◌else◌, option_map}
 use Rattle.lisp_data.specs.declared.sexp.Sexp.{Sexp}
 use Rattle.lisp_data.specs.declared.symbol.Symbol.{Symbol}
-use Rattle.lisp_data.specs.declared.value.Condition.{Condition}
 use Rattle.lisp_data.specs.declared.value.Value.{Value}
 use Rattle.lisp_data.specs.Same.{same_symbol}
 use Rattle.term_model.specs.declared.frame.Frame.{Frame}

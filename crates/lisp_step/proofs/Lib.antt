@@ -3,6 +3,6 @@ pub mod StackLemmas
 pub mod RowLemmas
 pub mod StepLemmas
 pub mod PartLemmas
+pub mod WaitingLemmas
 pub mod LeavingLemmas
 pub mod FormLemmas
-pub mod NameLemmas

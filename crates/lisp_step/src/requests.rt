@@ -7,10 +7,10 @@ ghost use Rattle.term_model.specs.declared.found.Found.TheVariants as found;
 ghost use Rattle.term_model.specs.declared.plain.Plain.TheVariants as plain;
 ghost use Rattle.lisp_step.specs.Rows.{answer_if, called_in, calls, carried, carried_or_left, image_called, image_if, laid, request_of};
 
-use crate::current_package::current_package;
 use crate::going::lay;
 use crate::leaving::leave;
 use lisp_data::{NoMemory, Pile, Rows, Sexp, Text};
+use lisp_dynamic::current_package;
 use lisp_frames::Stack;
 use lisp_image::Image;
 use rpc_messages::ToEmacs;

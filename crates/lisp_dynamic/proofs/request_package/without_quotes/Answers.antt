@@ -1,7 +1,7 @@
 use Rattle.std.proofs.Common.{◌∙◌, ◌++◌, ap, sym}
 use Rattle.std.specs.Prelude.{codes}
-use Rattle.lisp_step.proofs.NameLemmas.{unquoted}
-use Rattle.lisp_step.proofs.bound_package.without_quotes.Goals as goal
+use Rattle.lisp_dynamic.proofs.NameLemmas.{unquoted}
+use Rattle.lisp_dynamic.proofs.request_package.without_quotes.Goals as goal
 
 pub returns-in-None-strip_suffix : goal.returns-in-None-strip_suffix
 returns-in-None-strip_suffix c =

@@ -4,7 +4,7 @@ use Rattle.lisp_data.specs.declared.sexp.Sexp.TheVariants as form
 use Rattle.lisp_packages.specs.declared.lisp_package.Package.{Package}
 use Rattle.rpc_messages.specs.Cut.{cut}
 use Rattle.swank_rpc.proofs.ListLemmas.{cut_names, more-names, no-more-names}
-use Rattle.swank_rpc.proofs.global_package.package_names.Goals as goal
+use Rattle.swank_rpc.proofs.packages.package_names.Goals as goal
 
 pub returns-in_default : goal.returns-in_default
 returns-in_default c =

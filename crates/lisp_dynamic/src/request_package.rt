@@ -3,17 +3,16 @@ ghost use Rattle.std.specs.List.{list_any};
 ghost use Rattle.std.specs.Str.{bytes_eq};
 ghost use Rattle.lisp_data.specs.declared.sexp.Sexp.TheViews.{out-Sexp};
 ghost use Rattle.step_model.specs.CurrentPackage.{bare_name, binds_package, bound_if, bound_package, global_value, head_in, headed_by, without_mark, without_quotes};
-ghost use Rattle.step_model.specs.Perform.{package_bound};
+ghost use Rattle.lisp_dynamic.specs.Values.{bound_in};
 ghost use Rattle.lisp_packages.specs.Packages.{place_of};
 
-use crate::current_package::{USER_PACKAGE, package_variable};
-use lisp_data::{Name, NoMemory, Rows, Sexp, Text, Value};
+use crate::packages::USER_PACKAGE;
+use lisp_data::{NoMemory, Sexp, Text, Value};
 use lisp_image::Image;
 use std::alloc::Global;
-use term_model::Plain;
 
 /// The heads of the requests that work in the global package.
-pub(crate) const UNBOUND_HEADS: [&str; 8] = [
+const UNBOUND_HEADS: [&str; 8] = [
     "SWANK:LISTENER-EVAL",
     "SWANK::LISTENER-EVAL",
     "SWANK-REPL:LISTENER-EVAL",
@@ -61,19 +60,14 @@ fn bare_name(alloc: Global, text: &str) -> Result<Text, NoMemory>
 fn global_value(alloc: Global, image: &Image) -> Result<Value, NoMemory>
     ensures { IfOk result (λ value. value ≡ global_value image.now) }
 {
-    let variable = package_variable(alloc)?;
-    match image.global(&variable) {
+    match image.global(image.package_variable().symbol()) {
         Some(value) => value.copy(alloc),
         None => Ok(Value::Str(Text::of(alloc, USER_PACKAGE)?)),
     }
 }
 
 /// What a request of this package binds `*PACKAGE*` to.
-pub(crate) fn bound_package(
-    alloc: Global,
-    image: &Image,
-    package: Option<Text>,
-) -> Result<Value, NoMemory>
+fn bound_package(alloc: Global, image: &Image, package: Option<Text>) -> Result<Value, NoMemory>
     ensures { IfOk result (λ value. value ≡ bound_package image.now «package») }
 {
     match package {
@@ -130,19 +124,17 @@ fn binds_package(alloc: Global, form: &Sexp) -> Result<bool, NoMemory>
     Ok(!is_among(&UNBOUND_HEADS, head.as_str()))
 }
 
-/// The marker of the binding, where a request has one.
-pub(crate) fn package_markers(
+/// What a request of this form and this package binds `*PACKAGE*` to; None where it has no such binding.
+pub fn package_of_request(
     alloc: Global,
+    image: &Image,
     form: &Sexp,
-    value: Value,
-) -> Result<Rows<Plain>, NoMemory>
-    ensures { IfOk result (λ markers. markers ≡ package_bound (binds_package form.now) value) }
+    package: Option<Text>,
+) -> Result<Option<Value>, NoMemory>
+    ensures { IfOk result (λ value. value ≡ bound_in (binds_package form.now) (bound_package image.now «package»)) }
 {
-    let mut markers = Rows::new(alloc);
     if !binds_package(alloc, form)? {
-        return Ok(markers);
+        return Ok(None);
     }
-    let variable = Name::new(alloc, package_variable(alloc)?)?;
-    markers.push(Plain::Dynamic { variable, value })?;
-    Ok(markers)
+    Ok(Some(bound_package(alloc, image, package)?))
 }
