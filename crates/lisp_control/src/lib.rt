@@ -2,8 +2,8 @@
 //!
 //! The layer above uses that [`find_block`] and [`find_catch`] are the searches of the same names of `term_model`, and that [`leave`] is its
 //! exit as far as the stack goes: it stops at the innermost protected form that it meets, whose cleanup then stands there with the exit kept,
-//! and names each request, level and question that it dropped, the inner ones first. What is seen of a layer and what is dropped with it stand in
-//! `specs/Targets.antt` and `specs/Leaving.antt`.
+//! and names each request, level and question that it dropped, the inner ones first. What is seen of a layer stands in
+//! `specs/Seeking.antt` of `lisp_frames`, and what is dropped with it in `specs/Leaving.antt`.
 #![tactic(auto)]
 
 mod leaving;

@@ -9,9 +9,8 @@ use Rattle.term_model.specs.Room.{layers, levels}
 use Rattle.term_model.specs.Search.{layer_at}
 use Rattle.term_model.specs.Term.{Context}
 use Rattle.lisp_frames.specs.declared.changes.Change.{Change}
-use Rattle.lisp_frames.specs.declared.changes.Change.TheVariants.{Again, Bound, Local}
-use Rattle.lisp_frames.specs.Stack.{by_change, changed_at}
-use Rattle.lisp_frames.specs.Places.{at_place}
+use Rattle.lisp_frames.specs.declared.changes.Change.TheVariants as change
+use Rattle.lisp_frames.specs.Stack.{at_place, by_change, changed_at}
 
 -- ---- the frame that was pushed last is the innermost
 
@@ -169,24 +168,10 @@ levels_changed_at n change [] same = refl
 levels_changed_at n change (l ∷ c) same = changed_if (n == length c + 1) l (change l) c (changed_at n change c) (same l) (levels_changed_at n change c same)
 
 by_change-level : (m : Change) (l : Frame) → levels (by_change m l ∷ []) ≡ levels (l ∷ [])
-by_change-level (Again again) (frame.On p) = refl
-by_change-level (Again again) (frame.Protect k cleanup) = refl
-by_change-level (Again again) (frame.Cleanup k saved) = refl
-by_change-level (Again again) (frame.Rex i id form) = refl
-by_change-level (Again again) (frame.Sldb n condition told) = refl
-by_change-level (Again again) (frame.Ask kind tag) = refl
-by_change-level (Bound v) (frame.On p) = refl
-by_change-level (Bound v) (frame.Protect k cleanup) = refl
-by_change-level (Bound v) (frame.Cleanup k saved) = refl
-by_change-level (Bound v) (frame.Rex i id form) = refl
-by_change-level (Bound v) (frame.Sldb n condition told) = refl
-by_change-level (Bound v) (frame.Ask kind tag) = refl
-by_change-level (Local v) (frame.On p) = refl
-by_change-level (Local v) (frame.Protect k cleanup) = refl
-by_change-level (Local v) (frame.Cleanup k saved) = refl
-by_change-level (Local v) (frame.Rex i id form) = refl
-by_change-level (Local v) (frame.Sldb n condition told) = refl
-by_change-level (Local v) (frame.Ask kind tag) = refl
+by_change-level (change.Again again) (frame.Sldb n condition told) = refl
+by_change-level (change.Again again) l = refl
+by_change-level (change.Value v) (frame.On p) = refl
+by_change-level (change.Value v) l = refl
 
 -- none of the changes opens or closes a level
 pub levels_at_place : (xs : List Frame) (m : Change) (k : ℕ) → levels (reverse (at_place k (by_change m) xs)) ≡ levels (reverse xs)

@@ -1,3 +1,3 @@
 pub mod ContextLemmas
-pub mod VariableLemmas
+pub mod SearchLemmas
 pub mod RoomLemmas

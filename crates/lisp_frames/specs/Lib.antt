@@ -1,3 +1,3 @@
 pub mod Stack
-pub mod Places
+pub mod Seeking
 pub mod Resumed

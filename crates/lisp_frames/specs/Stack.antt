@@ -1,5 +1,5 @@
 -- The stack of a thread: its term, as the redex and what is around it, and the serial of its next protected form.
-use Rattle.std.specs.Prelude.{ℕ, ◌+◌, ◌==◌, Bool, nat_le, if◌then◌else◌, [], ◌∷◌, length, Option, Some, None}
+use Rattle.std.specs.Prelude.{ℕ, zero, suc, ◌+◌, ◌==◌, Bool, nat_le, if◌then◌else◌, List, [], ◌∷◌, length, Option, Some, None}
 use Rattle.lisp_data.specs.declared.value.Value.{Value}
 use Rattle.rpc_messages.specs.declared.pattern.Pattern.TheVariants as pattern
 use Rattle.term_model.specs.declared.focus.Focus.{Focus}
@@ -11,7 +11,7 @@ use Rattle.term_model.specs.declared.plain.Plain.TheVariants as plain
 use Rattle.term_model.specs.Room.{layers, levels, limit}
 use Rattle.term_model.specs.Term.{Context}
 use Rattle.lisp_frames.specs.declared.changes.Change.{Change}
-use Rattle.lisp_frames.specs.declared.changes.Change.TheVariants.{Again, Bound, Local}
+use Rattle.lisp_frames.specs.declared.changes.Change.TheVariants as change
 
 pub record StackState : Type 0 where
   -- what is around the redex, the innermost layer first
@@ -55,33 +55,30 @@ abbrev pub changed_at : ℕ → (Frame → Frame) → Context → Context
 changed_at n change [] = []
 changed_at n change (l ∷ c) = if n == length c + 1 then change l ∷ c else l ∷ changed_at n change c
 
+-- the list with the item at this place changed, if there is one
+abbrev pub at_place : ℕ → (Frame → Frame) → List Frame → List Frame
+at_place k change [] = []
+at_place zero change (x ∷ xs) = change x ∷ xs
+at_place (suc k) change (x ∷ xs) = x ∷ at_place k change xs
+
 -- a level that is, or isn't, to be announced again
 abbrev pub with_again : Bool → Frame → Frame
 with_again again (frame.Sldb n condition told) = frame.Sldb n condition again
 with_again again l = l
 
--- a dynamic binding with this value; every other layer stays as it is
-abbrev pub with_dynamic_value : Value → Plain → Plain
-with_dynamic_value v (plain.Dynamic x w) = plain.Dynamic x v
-with_dynamic_value v p = p
+-- a binding with this value; every other layer stays as it is
+abbrev pub with_value_in_plain : Value → Plain → Plain
+with_value_in_plain v (plain.Lexical x w) = plain.Lexical x v
+with_value_in_plain v (plain.Dynamic x w) = plain.Dynamic x v
+with_value_in_plain v p = p
 
-abbrev pub with_bound : Value → Frame → Frame
-with_bound v (frame.On p) = frame.On (with_dynamic_value v p)
-with_bound v l = l
-
--- a lexical binding with this value; every other layer stays as it is
-abbrev pub with_lexical_value : Value → Plain → Plain
-with_lexical_value v (plain.Lexical x w) = plain.Lexical x v
-with_lexical_value v p = p
-
-abbrev pub with_local : Value → Frame → Frame
-with_local v (frame.On p) = frame.On (with_lexical_value v p)
-with_local v l = l
+abbrev pub with_value : Value → Frame → Frame
+with_value v (frame.On p) = frame.On (with_value_in_plain v p)
+with_value v l = l
 
 abbrev pub by_change : Change → Frame → Frame
-by_change (Again again) = with_again again
-by_change (Bound v) = with_bound v
-by_change (Local v) = with_local v
+by_change (change.Again again) = with_again again
+by_change (change.Value v) = with_value v
 
 -- what is given back of a value that was to be assigned
 abbrev pub given_back : Value → Option Context → Option Value

@@ -1,17 +1,14 @@
 ghost use Rattle.std.specs.Prelude.{◌≡◌};
-ghost use Rattle.lisp_frames.specs.Places.{at_place};
-ghost use Rattle.lisp_frames.specs.Stack.{by_change, with_again, with_dynamic_value, with_lexical_value};
+ghost use Rattle.lisp_frames.specs.Stack.{at_place, by_change, with_again, with_value, with_value_in_plain};
 
 use lisp_data::Value;
 use term_model::{Frame, Plain};
 
-/// A change of a frame: of a level, whether it is to be announced again; of a dynamic or a lexical binding, its value. A frame of
-/// another kind stays as it is.
+/// A change of a frame: of a level, whether it is to be announced again; of a binding, its value. A frame of another kind stays as it is.
 #[derive(Drop)]
 pub(crate) enum Change {
     Again(bool),
-    Bound(Value),
-    Local(Value),
+    Value(Value),
 }
 
 fn announce(frame: &mut Frame, now: bool)
@@ -22,19 +19,21 @@ fn announce(frame: &mut Frame, now: bool)
     }
 }
 
-fn bind(layer: &mut Plain, v: Value)
-    ensures { layer.new ≡ with_dynamic_value v layer.old }
+fn bind_in(layer: &mut Plain, v: Value)
+    ensures { layer.new ≡ with_value_in_plain v layer.old }
 {
-    if let Plain::Dynamic { value, .. } = layer {
-        *value = v;
+    match layer {
+        Plain::Lexical { value, .. } => *value = v,
+        Plain::Dynamic { value, .. } => *value = v,
+        _ => {}
     }
 }
 
-fn bind_local(layer: &mut Plain, v: Value)
-    ensures { layer.new ≡ with_lexical_value v layer.old }
+fn bind(frame: &mut Frame, v: Value)
+    ensures { frame.new ≡ with_value v frame.old }
 {
-    if let Plain::Lexical { value, .. } = layer {
-        *value = v;
+    if let Frame::On(layer) = frame {
+        bind_in(layer, v);
     }
 }
 
@@ -43,16 +42,7 @@ fn make_change(frame: &mut Frame, made: Change)
 {
     match made {
         Change::Again(again) => announce(frame, again),
-        Change::Bound(v) => {
-            if let Frame::On(layer) = frame {
-                bind(layer, v);
-            }
-        }
-        Change::Local(v) => {
-            if let Frame::On(layer) = frame {
-                bind_local(layer, v);
-            }
-        }
+        Change::Value(v) => bind(frame, v),
     }
 }
 

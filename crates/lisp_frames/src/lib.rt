@@ -7,11 +7,13 @@
 #![tactic(auto)]
 
 mod changes;
+mod look_ups;
 mod room;
+mod sought;
 mod stack;
-mod variables;
 
 pub use going_in::{advance, body, cond, look};
+pub use sought::Sought;
 pub use stack::{PushFault, Stack};
 pub use term_model::{
     Action, Ask, Bound, Bring, Cluster, Focus, Found, Frame, HandlerFunction, Offer, Origin,

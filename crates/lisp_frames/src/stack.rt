@@ -1,14 +1,12 @@
-ghost use Rattle.std.specs.Prelude.{◌≡◌, ◌<◌, ◌≤◌, ◌^◌, ◌+◌, ◌↔◌, [], ◌∷◌, reverse, Err, OnOk, OnErr, unwrap_or};
+ghost use Rattle.std.specs.Prelude.{◌≡◌, ◌<◌, ◌≤◌, ◌^◌, ◌+◌, ◌↔◌, [], ◌∷◌, slice_get, reverse, Err, OnOk, OnErr};
 ghost use Rattle.std.specs.Option.{option_copied};
 ghost use Rattle.term_model.specs.Room.{is_within, layers, levels, limit};
 ghost use Rattle.term_model.specs.Search.{layer_at};
-ghost use Rattle.term_model.specs.Variables.{lexical, with_lexical};
-ghost use Rattle.lisp_frames.specs.Stack.{by_change, fresh, changed_at, given_back, innermost, is_full, outer, with_again, with_bound, with_context, with_redex, with_serial, within};
+ghost use Rattle.lisp_frames.specs.Stack.{by_change, fresh, changed_at, innermost, is_full, outer, with_again, with_context, with_redex, with_serial, within};
 ghost use Rattle.lisp_frames.specs.declared.stack.PushFault.TheVariants as fault;
 
 use crate::changes::{Change, change_at};
-use crate::variables::{binding, layer, lexical};
-use lisp_data::{NoMemory, Symbol, Value};
+use lisp_data::NoMemory;
 use rpc_messages::Pattern;
 use std::alloc::Global;
 use std::marker::Model;
@@ -91,6 +89,13 @@ fn limit(levels: u64) -> u128
     ensures { result ≡ limit levels }
 {
     20_000 + 500 * u128::from(levels)
+}
+
+/// The layer at this place, counted from 0.
+fn layer(layers: &[Frame], place: usize) -> Option<&Frame>
+    ensures { option_copied result ≡ slice_get layers.now place }
+{
+    layers.get(place)
 }
 
 impl Stack {
@@ -211,7 +216,7 @@ impl Stack {
 
     /// Makes one change in the layer of this number, if it is a frame.
     #[tactic(auto, using(crate::proofs::ContextLemmas::changed_at_place, crate::proofs::ContextLemmas::changed_at_zero, crate::proofs::ContextLemmas::levels_at_place))]
-    fn change(&mut self, n: u64, change: Change)
+    pub(crate) fn change(&mut self, n: u64, change: Change)
         ensures { self.new ≡ with_context (changed_at n (by_change change) self.old.context) self.old }
     {
         if let Some(place) = n.checked_sub(1) {
@@ -224,35 +229,6 @@ impl Stack {
         ensures { self.new ≡ with_context (changed_at n (with_again again) self.old.context) self.old }
     {
         self.change(n, Change::Again(again));
-    }
-
-    /// Gives the dynamic binding whose layer has this number another value.
-    pub fn set_bound(&mut self, n: u64, v: Value)
-        ensures { self.new ≡ with_context (changed_at n (with_bound v) self.old.context) self.old }
-    {
-        self.change(n, Change::Bound(v));
-    }
-
-    /// The value of a lexical variable, which is seen up to the nearest call, evaluation or request; None where it has none.
-    pub fn lookup(&self, s: &Symbol) -> Option<&Value>
-        ensures { option_copied result ≡ lexical s.now self.now.context }
-    {
-        lexical(self.layers.as_slice(), s)
-    }
-
-    /// Gives a lexical variable this value. The value is given back where `lookup` finds no such variable.
-    #[tactic(auto, using(crate::proofs::ContextLemmas::changed_at_place, crate::proofs::ContextLemmas::levels_at_place))]
-    pub fn assign(&mut self, s: &Symbol, v: Value) -> Option<Value>
-        ensures changed { self.new ≡ with_context (unwrap_or (with_lexical s.now v self.old.context) self.old.context) self.old }
-        ensures back { result ≡ given_back v (with_lexical s.now v self.old.context) }
-    {
-        match binding(self.layers.as_slice(), s) {
-            None => Some(v),
-            Some(n) => {
-                change_at(&mut self.layers, n - 1, Change::Local(v));
-                None
-            }
-        }
     }
 
     /// Gives the next serial, and raises it by one.

@@ -4,8 +4,9 @@ ghost use Rattle.std.specs.Borrow.{sem};
 ghost use Rattle.lisp_packages.specs.Fresh.{standard_packages};
 ghost use Rattle.lisp_image.specs.Image.{IsFunctionName, HasSmallOffset, global, is_special, function, function_at, with_global, with_special, with_function, fresh_image, package_variable};
 
+use crate::package_variable::PackageVariable;
 use crate::{Function, SymbolMap};
-use lisp_data::{NoMemory, Symbol, Text, Value};
+use lisp_data::{Name, NoMemory, Symbol, Text, Value};
 use lisp_packages::Packages;
 use std::alloc::Global;
 use std::marker::Model;
@@ -17,6 +18,7 @@ pub struct Image {
     globals: SymbolMap<Value>,
     specials: SymbolMap<()>,
     functions: SymbolMap<Function>,
+    package_variable: PackageVariable,
 }
 
 impl Model for Image {
@@ -39,15 +41,9 @@ impl Drop for Image {
             globals: _,
             specials: _,
             functions: _,
+            package_variable: _,
         } = self;
     }
-}
-
-/// `*PACKAGE*`, the variable that holds the name of the current package.
-fn package_variable(alloc: Global) -> Result<Symbol, NoMemory>
-    ensures { IfOk result (λ symbol. symbol ≡ package_variable) }
-{
-    Symbol::common_lisp(alloc, "*PACKAGE*")
 }
 
 impl Image {
@@ -62,12 +58,20 @@ impl Image {
             globals: SymbolMap::new(alloc),
             specials: SymbolMap::new(alloc),
             functions: SymbolMap::new(alloc),
+            package_variable: PackageVariable::new(alloc)?,
         };
-        let variable = package_variable(alloc)?;
-        image.proclaim_special(&variable)?;
+        let variable = image.package_variable().share()?;
+        image.proclaim_special(variable.symbol())?;
         let name = Text::of(alloc, "COMMON-LISP-USER")?;
-        image.set_global(&variable, Value::Str(name))?;
+        image.set_global(variable.symbol(), Value::Str(name))?;
         Ok(image)
+    }
+
+    /// `*PACKAGE*`, the variable that holds the name of the current package.
+    pub fn package_variable(&self) -> &Name
+        ensures { result.now ≡ package_variable }
+    {
+        self.package_variable.name()
     }
 
     /// The global value of a variable; None where it has none.

@@ -7,6 +7,7 @@
 
 mod function;
 mod image;
+mod package_variable;
 mod places;
 mod symbol_map;
 

@@ -2,8 +2,7 @@ pub mod LevelLemmas
 pub mod StackLemmas
 pub mod RowLemmas
 pub mod StepLemmas
-pub mod NearestLemmas
 pub mod PartLemmas
+pub mod WaitingLemmas
 pub mod LeavingLemmas
 pub mod FormLemmas
-pub mod NameLemmas

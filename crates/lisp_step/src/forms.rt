@@ -6,10 +6,10 @@ ghost use Rattle.lisp_syntax.specs.Parsing.{parsed};
 ghost use Rattle.syntax_trees.specs.Places.{row_of};
 ghost use Rattle.lisp_step.specs.Rows.{formed, gone, image_run, image_with, is_definition, packages_in, packages_with, resolved, runs, tree_of, tree_or_none, value_in};
 
-use crate::current_package::current_package;
 use crate::going::{give_value, go};
 use crate::leaving::leave;
 use lisp_data::{NoMemory, Pile, Rows, Sexp, Text, Value};
+use lisp_dynamic::current_package;
 use lisp_frames::{Stack, look};
 use lisp_image::Image;
 use lisp_packages::{NameFault, Packages};

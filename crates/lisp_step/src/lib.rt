@@ -5,13 +5,10 @@
 //! makes of a thread whose layers are simple stands in `specs/Rows.antt`, one definition a function.
 #![tactic(auto)]
 
-mod bound_package;
-mod current_package;
 mod forms;
 mod going;
 mod leaving;
 mod machine;
-mod nearest;
 mod outcomes;
 mod requests;
 mod task;

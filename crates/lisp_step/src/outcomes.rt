@@ -7,13 +7,12 @@ ghost use Rattle.term_model.specs.declared.kept.Outcome.TheVariants as outcome;
 ghost use Rattle.lisp_frames.specs.Stack.{with_redex, within};
 ghost use Rattle.lisp_step.specs.Rows.{ended_in, finished, gives, in_layer, in_plain, request_ended};
 
-use crate::current_package::current_package;
 use crate::going::give;
 use crate::leaving::leave;
-use crate::nearest::served_form;
 use crate::requests::carry_out;
 use crate::task::{Part, part_of};
 use lisp_data::{NoMemory, Rows, Sexp, Value};
+use lisp_dynamic::current_package;
 use lisp_frames::Stack;
 use lisp_image::Image;
 use rpc_messages::{Pattern, Returned, ToEmacs};
@@ -34,7 +33,7 @@ fn end(
     ensures outs { OnOk result (outs.new ≡ outs.old ++ written (ended_in image.now stack.now.context kept.now value)) }
 {
     let package = current_package(alloc, stack, image)?;
-    match served_form(stack) {
+    match stack.served_form() {
         Some(form) => end_rpc(alloc, form, kept, value, &package, image, outs),
         None => {
             let form = Sexp::nil(alloc);

@@ -7,11 +7,10 @@ ghost use Rattle.term_model.specs.declared.found.Found.TheVariants as found;
 ghost use Rattle.term_model.specs.declared.plain.Plain.TheVariants as plain;
 ghost use Rattle.lisp_step.specs.Rows.{answer_if, called_in, calls, carried, carried_or_left, image_called, image_if, laid, request_of};
 
-use crate::current_package::current_package;
 use crate::going::lay;
 use crate::leaving::leave;
-use crate::nearest::served_form;
 use lisp_data::{NoMemory, Pile, Rows, Sexp, Text};
+use lisp_dynamic::current_package;
 use lisp_frames::Stack;
 use lisp_image::Image;
 use rpc_messages::ToEmacs;
@@ -90,7 +89,7 @@ fn call_nearest(alloc: Global, stack: &Stack, image: &mut Image) -> Result<Optio
     ensures image { OnOk result (image.new ≡ image_called image.old stack.now.context) }
 {
     let package = current_package(alloc, stack, image)?;
-    match served_form(stack) {
+    match stack.served_form() {
         Some(form) => call_form(alloc, form, &package, image),
         None => call_form(alloc, &Sexp::nil(alloc), &package, image),
     }

@@ -2,14 +2,15 @@ ghost use Rattle.std.specs.Prelude.{◌≡◌, IfOk, OnOk};
 ghost use Rattle.lisp_data.specs.declared.sexp.Sexp.TheViews.{out-Sexp};
 ghost use Rattle.lisp_frames.specs.Stack.{with_redex, within};
 ghost use Rattle.mailboxes.specs.Mail.{first_accepted, without_accepted};
-ghost use Rattle.step_model.specs.Perform.{answer_in};
+ghost use Rattle.step_model.specs.CurrentPackage.{binds_package, bound_package};
+ghost use Rattle.step_model.specs.Perform.{answer_in, package_bound};
 ghost use Rattle.term_model.specs.declared.focus.Focus.TheVariants as focus;
 ghost use Rattle.term_model.specs.declared.found.Found.TheVariants as found;
 ghost use Rattle.lisp_step.specs.Rows.{laid, received, waited};
 
-use crate::bound_package::{bound_package, package_markers};
 use crate::going::{give_value, lay};
-use lisp_data::{NoMemory, Rows, Sexp, Value};
+use lisp_data::{NoMemory, Rows, Sexp, Text, Value};
+use lisp_dynamic::package_of_request;
 use lisp_frames::Stack;
 use lisp_image::Image;
 use mailboxes::Mailbox;
@@ -28,6 +29,24 @@ fn begin(
 {
     stack.push_over(request)?;
     lay(alloc, stack, markers, Found::Here(Focus::Rpc))
+}
+
+/// The marker of the binding of `*PACKAGE*` that a request of this form and this package has; some have none.
+#[tactic(auto, using(crate::proofs::WaitingLemmas::bound_some, crate::proofs::WaitingLemmas::bound_none))]
+fn package_markers(
+    alloc: Global,
+    image: &Image,
+    form: &Sexp,
+    package: Option<Text>,
+) -> Result<Rows<Plain>, NoMemory>
+    ensures { IfOk result (λ markers. markers ≡ package_bound (binds_package form.now) (bound_package image.now «package»)) }
+{
+    let mut markers = Rows::new(alloc);
+    if let Some(value) = package_of_request(alloc, image, form, package)? {
+        let variable = image.package_variable().share()?;
+        markers.push(Plain::Dynamic { variable, value })?;
+    }
+    Ok(markers)
 }
 
 /// The value that the answer to a question gives.
@@ -59,8 +78,7 @@ fn receive(
             id,
             ..
         } => {
-            let value = bound_package(alloc, image, package)?;
-            let markers = package_markers(alloc, &form, value)?;
+            let markers = package_markers(alloc, image, &form, package)?;
             begin(alloc, Frame::Rex { at, id, form }, markers, stack)
         }
         FromEmacs::ReturnString { text, .. } => give_value(alloc, stack, Value::Str(text)),

@@ -9,10 +9,11 @@ ghost use Rattle.swank_rpc.specs.declared.function.SwankFunction.TheVariants as 
 use crate::Answer;
 use crate::call::{first_text, is_too_heavy, parts};
 use crate::function::{SwankFunction, function_of, name_of};
-use crate::global_package::{connection_info, package_names, repl_package, set_global_package};
+use crate::packages::{connection_info, package_names, repl_package};
 use crate::refusal::{bad_call, unknown_function};
 use crate::text::evaluate;
 use lisp_data::{NoMemory, Sexp, Text};
+use lisp_dynamic::set_global_package;
 use lisp_errors::{bad_arguments, package_not_found, value_too_large};
 use lisp_image::Image;
 use std::alloc::Global;
@@ -33,7 +34,7 @@ fn set_package(alloc: Global, text: &Text, image: &mut Image) -> Result<Answer, 
         Some(name) => name.copy(alloc)?,
         None => return Ok(Answer::Raised(package_not_found(alloc, text.as_str())?)),
     };
-    set_global_package(alloc, image, global)?;
+    set_global_package(image, global)?;
     Ok(Answer::Value(repl_package(alloc, image)?))
 }
 

@@ -12,9 +12,9 @@ mod call;
 mod calling;
 mod ending;
 mod function;
-mod global_package;
 mod kept;
 mod laws;
+mod packages;
 mod refusal;
 mod text;
 

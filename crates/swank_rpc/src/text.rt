@@ -6,9 +6,9 @@ ghost use Rattle.swank_rpc.specs.Commands.{answer_of, evaluates};
 ghost use Rattle.swank_rpc.specs.Texts as spec;
 
 use crate::Answer;
-use crate::global_package::global_package;
 use crate::kept::keep;
 use lisp_data::{Condition, NoMemory, Rows, Text, Value};
+use lisp_dynamic::global_package;
 use lisp_errors::{MAX_WEIGHT, reader_fault};
 use lisp_image::Image;
 use sexp_printer::{print_user, user_length};

@@ -73,26 +73,22 @@ fn frames_are_pushed_up_to_the_limit(rt: HostRuntime) -> Result<(), Fail> {
 
 /// Whether the changes of one frame, the redex and the serial are seen.
 fn changes(stack: &mut Stack, alloc: Global) -> Result<bool, PushFault> {
+    let v = symbol(alloc, "V")?;
     stack.push(Frame::On(Plain::Dynamic {
         variable: name(alloc, "V")?,
         value: Value::Int(1),
     }))?;
     stack.push(level(alloc)?)?;
-    stack.set_bound(1, Value::Int(2));
+    let taken = stack.assign_dynamic(&v, Value::Int(2)).is_none();
+    let bound = taken && is_int(stack.dynamic(&v), 2);
     stack.set_again(2, true);
-    let bound = matches!(
-        stack.frame_at(1),
-        Some(Frame::On(Plain::Dynamic {
-            value: Value::Int(2),
-            ..
-        }))
-    );
+    let opened = matches!(stack.level(), Some((1, _)));
     let again = matches!(stack.frame_at(2), Some(Frame::Sldb { again: true, .. }));
     let none = stack.frame_at(0).is_none() && stack.frame_at(3).is_none();
     stack.set_focus(Focus::Abort);
     let focus = matches!(stack.focus(), Focus::Abort);
     let old = matches!(stack.replace_focus(Focus::Rpc), Focus::Abort);
-    Ok(bound && again && none && focus && old)
+    Ok(bound && opened && again && none && focus && old)
 }
 
 #[test]
