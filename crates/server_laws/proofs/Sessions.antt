@@ -25,6 +25,7 @@ use Rattle.session_model.specs.Journal.{arrivals, arrived, happens, next, output
 use Rattle.session_model.specs.Legal.{AreLegal, IsLegalFrom, IsSmallName, MayArrive, MayHappen}
 use Rattle.session_model.specs.Running.{after_step, broke_if, interrupted, is_over, lends_thread, now_of, returns, settles, step_of, steps, steps_once, swept, unlent}
 use Rattle.session_model.specs.World.{Happened, Thread, World, fresh, repl, silent, start, tells, then, thread_at, with_thread}
+use Rattle.session_model.proofs.ArrivingLemmas.{arrived_either}
 use Rattle.session_laws.proofs.EachThread.{Holds, add_one, becomes, set_one}
 use Rattle.session_laws.proofs.EachThread as threads
 use Rattle.session_laws.proofs.Threads.{found}
@@ -218,7 +219,7 @@ module _ (Small : Type 0) where
   -- ---- journals
 
   happens_fit : (w : World) (seat : ℕ) (e : Event) → (Small → EventIsSmall e) → (Small → MayHappen rules w seat e) → WorldFits w → HappenedFits (happens rules w seat e)
-  happens_fit w seat (Arrive m) k g h = arrives_fit w m k (λ s. (g s).1) h
+  happens_fit w seat (Arrive m) k g h = arrived_either HappenedFits rules.built w m (silent_fits w h) (arrives_fit w m k (λ s. (g s).1) h)
   happens_fit w seat End k g h = silent_fits _ (record { names = h.names; threads = h.threads; workers = h.workers })
   happens_fit w seat (Lend t) k g h = lends_fit w seat t (thread_at w t) refl h
   happens_fit w seat (Burst t n) k g h =

@@ -17,4 +17,4 @@ has_row (frame.Rex i id form ∷ c) (focus.Given o) = true
 has_row c f = false
 
 abbrev pub built : Built
-built = record { has_row = has_row; serves = is_served; raises = false; levels = 0 }
+built = record { has_row = has_row; serves = is_served; raises = false; levels = 0; interrupts = false }

@@ -10,7 +10,7 @@ pub acts_alone : (rules : Rules) (w : World) → ActsAlone rules w
 acts_alone rules w = record {
   burst = λ seat t n. burst_alone rules w t n;
   lend = λ seat t. lend_alone rules.built.levels w seat t;
-  arrive = λ seat m. arrival_received w m;
+  arrive = λ seat m. arrival_received rules.built w m;
   end = λ seat. refl;
   drain = λ seat k. refl;
 }

@@ -28,10 +28,11 @@ use Rattle.step_model.specs.AsBuilt.{step_as_built}
 use Rattle.session_model.specs.declared.event.Entry.{Entry}
 use Rattle.session_model.specs.declared.event.Event.{Event}
 use Rattle.session_model.specs.declared.event.Event.TheVariants.{Arrive, End, Lend, Burst, Drain}
-use Rattle.session_model.specs.Arriving.{answers, arrives, interrupts, named, not_found, posted, requests, requests_by}
+use Rattle.session_model.specs.Arriving.{answers, arrives_as_built, interrupts, named, not_found, posted, requests, requests_by}
 use Rattle.session_model.specs.Journal.{happens, labels, next, run, run_from}
 use Rattle.session_model.specs.Running.{after_step, broke_if, interrupted, is_over, lends_thread, now_of, settles, step_of, steps, steps_once, swept, unlent}
 use Rattle.session_model.specs.World.{Happened, Thread, World, fresh, repl, start, thread_at}
+use Rattle.session_model.proofs.ArrivingLemmas.{arrived_either}
 use Rattle.session_laws.specs.Seen.{Seen, Unborn, Alive, Gone, seen, seen_in, state_in}
 use Rattle.session_laws.proofs.Places.{happens_places}
 use Rattle.session_laws.proofs.StepFacts.{IsOf, step_of_thread}
@@ -195,9 +196,12 @@ module _ (rules : Rules) (I : List Entry → ℕ → List Label → Seen → Typ
   interrupts_keep past ls w t (Some live) at h = stays past ls w.threads t live (record live { interrupts = live.interrupts + 1 }) refl (found w.threads t live at) h
   interrupts_keep past ls w t None at h = notes_keep past ls w.threads (message.DebugCondition t (not_found t)) refl h
 
-  arrives_keep : (past : List Entry) (e : Entry) (ls : List Label) (w : World) (m : FromEmacs) → e.event ≡ Arrive m → asks e.event ≡ is_request m → w.places ≡ length past → Holds past ls w.threads → After (past ++ e ∷ []) ls (arrives w m)
+  arrives_keep : (past : List Entry) (e : Entry) (ls : List Label) (w : World) (m : FromEmacs) → e.event ≡ Arrive m → asks e.event ≡ is_request m → w.places ≡ length past → Holds past ls w.threads → After (past ++ e ∷ []) ls (arrives_as_built rules.built w m)
   arrives_keep past e ls w (mail.Rex form p thread id) is asks place h = requests_by_keep past e ls w form p thread thread id is place h
-  arrives_keep past e ls w (mail.Interrupt thread) is asks place h = interrupts_keep (past ++ e ∷ []) ls w (named w thread) (thread_at w (named w thread)) refl (later_keeps past e ls w.threads asks h)
+  arrives_keep past e ls w (mail.Interrupt thread) is asks place h =
+      let later = later_keeps past e ls w.threads asks h in
+      arrived_either (After (past ++ e ∷ []) ls) rules.built w (mail.Interrupt thread) (nothing (past ++ e ∷ []) ls w.threads later)
+      (interrupts_keep (past ++ e ∷ []) ls w (named w thread) (thread_at w (named w thread)) refl later)
   arrives_keep past e ls w (mail.ReturnString thread tag text) is asks place h = answers_keep past e ls w (named w thread) (mail.ReturnString thread tag text) (thread_at w (named w thread)) asks is place refl h
   arrives_keep past e ls w (mail.Return thread tag form) is asks place h = answers_keep past e ls w (named w thread) (mail.Return thread tag form) (thread_at w (named w thread)) asks is place refl h
   arrives_keep past e ls w (mail.Unreadable packet text) is asks place h = notes_keep (past ++ e ∷ []) ls w.threads (message.ReaderError packet text) refl (later_keeps past e ls w.threads asks h)

@@ -8,8 +8,10 @@ use Rattle.rpc_messages.specs.declared.from_emacs.FromEmacs.{FromEmacs}
 use Rattle.rpc_messages.specs.declared.from_emacs.FromEmacs.TheVariants as mail
 use Rattle.rpc_messages.specs.declared.from_emacs.ThreadName.{ThreadName}
 use Rattle.rpc_messages.specs.declared.from_emacs.ThreadName.TheVariants as name
-use Rattle.session_model.specs.Arriving.{answers, arrives, interrupts, named, posted, requests, requests_by}
+use Rattle.step_model.specs.Built.{Built}
+use Rattle.session_model.specs.Arriving.{answers, arrives, arrives_as_built, interrupts, named, posted, requests, requests_by}
 use Rattle.session_model.specs.World.{Thread, World, fresh, repl, thread_at, thread_in}
+use Rattle.session_model.proofs.ArrivingLemmas.{arrived_either}
 use Rattle.session_laws.proofs.Threads.{found, get-append_last, get-append_other, get-set_other, get-set_same}
 
 -- it holds of what stands at a number, if that is a live thread
@@ -58,12 +60,15 @@ module _ (P : Thread → Type 0) where
     interrupts_each w t None e h = h
     interrupts_each w t (Some thread) e h = becomes w.threads t thread (record thread { interrupts = thread.interrupts + 1 }) (found w.threads t thread e) (adds thread (thread.interrupts + 1)) h
 
-    pub arrives_each : (w : World) (m : FromEmacs) → Each w.threads → Each (arrives w m).after.threads
+    arrives_each : (w : World) (m : FromEmacs) → Each w.threads → Each (arrives w m).after.threads
     arrives_each w (mail.Rex form p thread id) h = requests_by_each w id (mail.Rex form p thread id) thread h
     arrives_each w (mail.Interrupt thread) h = interrupts_each w (named w thread) (thread_at w (named w thread)) refl h
     arrives_each w (mail.ReturnString thread tag text) h = answers_each w (named w thread) (mail.ReturnString thread tag text) (thread_at w (named w thread)) refl h
     arrives_each w (mail.Return thread tag form) h = answers_each w (named w thread) (mail.Return thread tag form) (thread_at w (named w thread)) refl h
     arrives_each w (mail.Unreadable packet text) h = h
+
+    pub arrived_each : (built : Built) (w : World) (m : FromEmacs) → Each w.threads → Each (arrives_as_built built w m).after.threads
+    arrived_each built w m h = arrived_either (λ x. Each x.after.threads) built w m h (arrives_each w m h)
 
 not_live_at : (P : Thread → Type 0) (o : Option (Option Thread)) → option_map_or (λ thread. thread) o None ≡ None → Holds P o
 not_live_at P None e = tt

@@ -8,6 +8,7 @@ use Rattle.term_model.specs.Breaks.{broken_at, may_open}
 use Rattle.term_model.specs.Term.{At, Context, plug, split, split-plug}
 use Rattle.step_model.proofs.KeepsFacts.{as_built_keeps, break_keeps}
 use Rattle.step_model.proofs.KeepsOrder.{path_keeps}
+use Rattle.step_model.specs.Built.{Built}
 use Rattle.step_model.specs.Facts.{IsSound}
 use Rattle.step_model.specs.Image.{ImageState}
 use Rattle.step_model.specs.Marks.{Mark}
@@ -20,14 +21,14 @@ use Rattle.step_model.specs.AsBuilt.{step_as_built}
 use Rattle.session_model.specs.declared.event.Entry.{Entry}
 use Rattle.session_model.specs.declared.event.Event.{Event}
 use Rattle.session_model.specs.declared.event.Event.TheVariants.{Arrive, End, Lend, Burst, Drain}
-use Rattle.session_model.specs.Arriving.{arrives}
+use Rattle.session_model.specs.Arriving.{arrives_as_built}
 use Rattle.session_model.specs.Journal.{happens, next, run, run_from}
 use Rattle.session_model.specs.Running.{after_step, interrupted, is_over, lends_thread, now_of, settles, step_of, steps, steps_once, unlent}
 use Rattle.session_model.specs.World.{Thread, World, fresh, start, thread_at}
 use Rattle.session_laws.specs.FactsHold.{FactsHold}
 use Rattle.session_laws.specs.Seen.{Seen, Unborn, Alive, Gone, seen}
 use Rattle.session_laws.proofs.Always.{IsLaw, always}
-use Rattle.session_laws.proofs.EachThread.{Each, Holds, arrives_each, becomes, set_one}
+use Rattle.session_laws.proofs.EachThread.{Each, Holds, arrived_each, becomes, set_one}
 use Rattle.session_laws.proofs.Threads.{found}
 
 abbrev pub TermIsSound : ℕ → Thread → Type 0
@@ -42,8 +43,8 @@ plugged most c f h = subst (λ (s : Context × Focus). IsSound most s.0 s.1) (sy
 pub waiting : (most : ℕ) (mb : Mailbox) → TermIsSound most (fresh mb)
 waiting most mb = record { layers = tt; redex = refl }
 
-arrives_have : (most : ℕ) (w : World) (m : FromEmacs) → All_have most w.threads → All_have most (arrives w m).after.threads
-arrives_have most w m h = arrives_each (TermIsSound most) (waiting most) (λ thread i m k. k) (λ thread n k. k) w m h
+arrives_have : (most : ℕ) (built : Built) (w : World) (m : FromEmacs) → All_have most w.threads → All_have most (arrives_as_built built w m).after.threads
+arrives_have most built w m h = arrived_each (TermIsSound most) (waiting most) (λ thread i m k. k) (λ thread n k. k) built w m h
 
 pub interrupted_has : (most n : ℕ) (thread : Thread) → TermIsSound most thread → TermIsSound most (interrupted most n thread)
 interrupted_has most zero thread h = h
@@ -75,7 +76,7 @@ unlent_has most w t None e h = h
 unlent_has most w t (Some thread) e h = becomes (TermIsSound most) w.threads t thread (record thread { lent = None }) (found w.threads t thread e) (λ k. k) h
 
 happens_has : (rules : Rules) (w : World) (seat : ℕ) (e : Event) → All_have rules.built.levels w.threads → All_have rules.built.levels (happens rules w seat e).after.threads
-happens_has rules w seat (Arrive m) h = arrives_have rules.built.levels w m h
+happens_has rules w seat (Arrive m) h = arrives_have rules.built.levels rules.built w m h
 happens_has rules w seat End h = h
 happens_has rules w seat (Lend t) h = lends_have rules.built.levels w seat t (thread_at w t) refl h
 happens_has rules w seat (Burst t n) h =

@@ -10,13 +10,14 @@ use Rattle.rpc_messages.specs.declared.from_emacs.FromEmacs.{FromEmacs}
 use Rattle.rpc_messages.specs.declared.from_emacs.FromEmacs.TheVariants as mail
 use Rattle.rpc_messages.specs.declared.from_emacs.ThreadName.{ThreadName}
 use Rattle.rpc_messages.specs.declared.from_emacs.ThreadName.TheVariants as name
+use Rattle.step_model.specs.Built.{Built}
 use Rattle.step_model.specs.Now.{Now}
 use Rattle.step_model.specs.Rules.{Rules}
 use Rattle.step_model.specs.AsBuilt.{step_as_built}
 use Rattle.session_model.specs.declared.event.Entry.{Entry}
 use Rattle.session_model.specs.declared.event.Event.{Event}
 use Rattle.session_model.specs.declared.event.Event.TheVariants.{Arrive, End, Lend, Burst, Drain}
-use Rattle.session_model.specs.Arriving.{answers, arrives, interrupts, named, posted, requests, requests_by}
+use Rattle.session_model.specs.Arriving.{answers, arrives_as_built, interrupts, interrupts_if, named, posted, requests, requests_by}
 use Rattle.session_model.specs.Journal.{happens, next, run_from}
 use Rattle.session_model.specs.Running.{after_step, bursts, interrupted, is_over, lends_thread, now_of, settles, step_of, steps, steps_once, unlent}
 use Rattle.session_model.specs.World.{Thread, World, fresh, repl, thread_at}
@@ -134,12 +135,18 @@ interrupts_count w u t (Some thread) e =
     (λ is. subst (λ x. Counts (tally ((u == t) && is_some (thread_at w t))) 0 x (Some (Some now))) (sym (ap (slice_get w.threads) (sym is) ∙ at)) (live_not_over thread, omega (arith, here_and_live u t (is_some (thread_at w t)) is (ap (λ v. is_some (thread_at w v)) (sym is) ∙ ap is_some e))))
     (λ ne. subst (λ a. Counts a 0 (slice_get w.threads t) (slice_get w.threads t)) (sym (not_here u t (is_some (thread_at w t)) ne)) (counts_same (slice_get w.threads t)))
 
-arrives_count : (w : World) (t : ℕ) (m : FromEmacs) → Counts (tally (interrupts_now t w m)) 0 (slice_get w.threads t) (slice_get (arrives w m).after.threads t)
-arrives_count w t (mail.Rex form p thread id) = requests_by_count w t id (mail.Rex form p thread id) thread
-arrives_count w t (mail.Interrupt thread) = interrupts_count w (named w thread) t (thread_at w (named w thread)) refl
-arrives_count w t (mail.ReturnString thread tag text) = answers_count w (named w thread) t (mail.ReturnString thread tag text) (thread_at w (named w thread)) refl
-arrives_count w t (mail.Return thread tag form) = answers_count w (named w thread) t (mail.Return thread tag form) (thread_at w (named w thread)) refl
-arrives_count w t (mail.Unreadable packet text) = counts_same (slice_get w.threads t)
+-- one that is dropped changes nothing
+kept_count : (kept : Bool) (w : World) (u t : ℕ) (o : Option Thread) → thread_at w u ≡ o → Counts (tally (kept && (u == t) && is_some (thread_at w t))) 0 (slice_get w.threads t) (slice_get (interrupts_if kept w u o).after.threads t)
+kept_count true w u t o e = interrupts_count w u t o e
+kept_count false w u t (Some thread) e = counts_same (slice_get w.threads t)
+kept_count false w u t None e = counts_same (slice_get w.threads t)
+
+arrives_count : (built : Built) (w : World) (t : ℕ) (m : FromEmacs) → Counts (tally (interrupts_now built t w m)) 0 (slice_get w.threads t) (slice_get (arrives_as_built built w m).after.threads t)
+arrives_count built w t (mail.Rex form p thread id) = requests_by_count w t id (mail.Rex form p thread id) thread
+arrives_count built w t (mail.Interrupt thread) = kept_count built.interrupts w (named w thread) t (thread_at w (named w thread)) refl
+arrives_count built w t (mail.ReturnString thread tag text) = answers_count w (named w thread) t (mail.ReturnString thread tag text) (thread_at w (named w thread)) refl
+arrives_count built w t (mail.Return thread tag form) = answers_count w (named w thread) t (mail.Return thread tag form) (thread_at w (named w thread)) refl
+arrives_count built w t (mail.Unreadable packet text) = counts_same (slice_get w.threads t)
 
 -- ---- loans
 
@@ -189,8 +196,8 @@ bursts_count rules n u t w =
     let v : World = (steps rules n u w).after in
     counts_more 0 0 0 0 (slice_get w.threads t) (slice_get v.threads t) (slice_get (unlent v u (thread_at v u)).threads t) (steps_count rules n u t w) (unlent_count v u t (thread_at v u) refl)
 
-pub happens_count : (rules : Rules) (w : World) (seat t : ℕ) (e : Event) → Counts (tally (interrupts_thread t w e)) (tally (takes_interrupt t w e)) (slice_get w.threads t) (slice_get (happens rules w seat e).after.threads t)
-happens_count rules w seat t (Arrive m) = arrives_count w t m
+pub happens_count : (rules : Rules) (w : World) (seat t : ℕ) (e : Event) → Counts (tally (interrupts_thread rules.built t w e)) (tally (takes_interrupt t w e)) (slice_get w.threads t) (slice_get (happens rules w seat e).after.threads t)
+happens_count rules w seat t (Arrive m) = arrives_count rules.built w t m
 happens_count rules w seat t End = counts_same (slice_get w.threads t)
 happens_count rules w seat t (Lend u) = lends_count rules.built.levels w seat u t (thread_at w u) refl
 happens_count rules w seat t (Burst u n) = bursts_count rules n u t w
@@ -208,7 +215,7 @@ run_counts rules t thread [] w e = (λ f. live_not_over thread (sym e ∙ f), om
 run_counts rules t thread (e ∷ j) w is =
     let v : World = (next rules w e).after in
     let rest = run_counts rules t thread j v is in
-    let one = counts_step (tally (interrupts_thread t w e.event)) (tally (takes_interrupt t w e.event)) (slice_get w.threads t) (slice_get v.threads t) (happens_count rules w e.seat t e.event) rest.0 in
+    let one = counts_step (tally (interrupts_thread rules.built t w e.event)) (tally (takes_interrupt t w e.event)) (slice_get w.threads t) (slice_get v.threads t) (happens_count rules w e.seat t e.event) rest.0 in
     (one.0, omega (arith, rest.1, one.1))
 
 pend-pending : (o : Option (Option Thread)) → pend o ≡ pending_in (option_map_or (λ thread. thread) o None)

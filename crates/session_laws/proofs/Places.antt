@@ -13,6 +13,7 @@ use Rattle.session_model.specs.Arriving.{answers, arrives, interrupts, named, re
 use Rattle.session_model.specs.Journal.{happens}
 use Rattle.session_model.specs.Running.{is_over, lends_thread, now_of, settles, step_of, steps, steps_once, unlent}
 use Rattle.session_model.specs.World.{Thread, World, repl, thread_at}
+use Rattle.session_model.proofs.ArrivingLemmas.{arrived_either}
 
 requests_places : (w : World) (t : ℕ) (id : ℤ) (m : FromEmacs) (o : Option Thread) → (requests w t id m o).after.places ≡ w.places
 requests_places w t id m (Some thread) = refl
@@ -59,7 +60,7 @@ unlent_places w t (Some thread) = refl
 unlent_places w t None = refl
 
 pub happens_places : (rules : Rules) (w : World) (seat : ℕ) (e : Event) → (happens rules w seat e).after.places ≡ w.places
-happens_places rules w seat (Arrive m) = arrives_places w m
+happens_places rules w seat (Arrive m) = arrived_either (λ h. h.after.places ≡ w.places) rules.built w m refl (arrives_places w m)
 happens_places rules w seat End = refl
 happens_places rules w seat (Lend t) = lends_places rules.built.levels w seat t (thread_at w t)
 happens_places rules w seat (Burst t n) =

@@ -12,7 +12,7 @@ use Rattle.step_model.specs.Rules.{Rules}
 use Rattle.session_model.specs.declared.event.Entry.{Entry}
 use Rattle.session_model.specs.declared.event.Event.{Event}
 use Rattle.session_model.specs.declared.event.Event.TheVariants.{Arrive, End, Lend, Burst, Drain}
-use Rattle.session_model.specs.Arriving.{arrives}
+use Rattle.session_model.specs.Arriving.{arrives_as_built}
 use Rattle.session_model.specs.Journal.{happens, next, run_from}
 use Rattle.session_model.specs.Legal.{AreLegal, IsLentTo, MayHappen}
 use Rattle.session_model.specs.Running.{broke_if, bursts, interrupted, lends, lends_thread, steps, unlent}
@@ -101,7 +101,7 @@ module _ (rules : Rules) (t : ℕ) where
 
   -- an event other than a loan of the thread leaves it unlent
   stays_unlent : (w : World) (seat : ℕ) (e : Event) → tally (is_loan_of t e) ≡ 0 → loan (slice_get w.threads t) ≡ None → loan (slice_get (happens rules w seat e).after.threads t) ≡ None
-  stays_unlent w seat (Arrive m) e h = received_loan w.threads (arrives w m).after.threads t (slice_get w.threads t) (slice_get (arrives w m).after.threads t) refl refl (received w m) h
+  stays_unlent w seat (Arrive m) e h = let now : List (Option Thread) = (arrives_as_built rules.built w m).after.threads in received_loan w.threads now t (slice_get w.threads t) (slice_get now t) refl refl (received rules.built w m) h
   stays_unlent w seat End e h = h
   stays_unlent w seat (Drain k) e h = h
   stays_unlent w seat (Lend u) e h = ap loan ((lend_alone rules.built.levels w seat u).others t (λ f. other_loan u e (sym f))) ∙ h

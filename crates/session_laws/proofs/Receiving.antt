@@ -7,8 +7,10 @@ use Rattle.rpc_messages.specs.declared.from_emacs.FromEmacs.{FromEmacs}
 use Rattle.rpc_messages.specs.declared.from_emacs.FromEmacs.TheVariants as mail
 use Rattle.rpc_messages.specs.declared.from_emacs.ThreadName.{ThreadName}
 use Rattle.rpc_messages.specs.declared.from_emacs.ThreadName.TheVariants as name
-use Rattle.session_model.specs.Arriving.{answers, arrives, interrupts, named, posted, requests, requests_by}
+use Rattle.step_model.specs.Built.{Built}
+use Rattle.session_model.specs.Arriving.{answers, arrives, arrives_as_built, interrupts, named, posted, requests, requests_by}
 use Rattle.session_model.specs.World.{Thread, World, fresh, repl, thread_at}
+use Rattle.session_model.proofs.ArrivingLemmas.{arrived_either}
 use Rattle.session_laws.specs.ActsAlone.{Receives}
 use Rattle.session_laws.proofs.SomeLemmas.{none≢some, some_is}
 use Rattle.session_laws.proofs.Threads.{found, get-append_last, get-append_other, get-set_other, get-set_same, live_at}
@@ -90,20 +92,23 @@ interrupts_received : (w : World) (t : ℕ) (o : Option Thread) → thread_at w 
 interrupts_received w t (Some thread) e = set_like w.threads t thread (record thread { interrupts = thread.interrupts + 1 }) (found w.threads t thread e) (record { term = refl; serial = refl; lent = refl })
 interrupts_received w t None e = unchanged w.threads
 
-pub received : (w : World) (m : FromEmacs) → Received w.threads (arrives w m).after.threads
-received w (mail.Rex form p thread id) = requests_by_received w id (mail.Rex form p thread id) thread
-received w (mail.Interrupt thread) = interrupts_received w (named w thread) (thread_at w (named w thread)) refl
-received w (mail.ReturnString thread tag text) = answers_received w (named w thread) (mail.ReturnString thread tag text) (thread_at w (named w thread)) refl
-received w (mail.Return thread tag form) = answers_received w (named w thread) (mail.Return thread tag form) (thread_at w (named w thread)) refl
-received w (mail.Unreadable packet text) = unchanged w.threads
+arrives_received : (w : World) (m : FromEmacs) → Received w.threads (arrives w m).after.threads
+arrives_received w (mail.Rex form p thread id) = requests_by_received w id (mail.Rex form p thread id) thread
+arrives_received w (mail.Interrupt thread) = interrupts_received w (named w thread) (thread_at w (named w thread)) refl
+arrives_received w (mail.ReturnString thread tag text) = answers_received w (named w thread) (mail.ReturnString thread tag text) (thread_at w (named w thread)) refl
+arrives_received w (mail.Return thread tag form) = answers_received w (named w thread) (mail.Return thread tag form) (thread_at w (named w thread)) refl
+arrives_received w (mail.Unreadable packet text) = unchanged w.threads
 
-pub arrival_received : (w : World) (m : FromEmacs) → Receives w (arrives w m).after
-arrival_received w m =
-    let r : Received w.threads (arrives w m).after.threads = received w m in
+pub received : (built : Built) (w : World) (m : FromEmacs) → Received w.threads (arrives_as_built built w m).after.threads
+received built w m = arrived_either (λ h. Received w.threads h.after.threads) built w m (unchanged w.threads) (arrives_received w m)
+
+pub arrival_received : (built : Built) (w : World) (m : FromEmacs) → Receives w (arrives_as_built built w m).after
+arrival_received built w m =
+    let r : Received w.threads (arrives_as_built built w m).after.threads = received built w m in
     record {
-      standing = λ u thread e. let s = r.standing u thread (found w.threads u thread e) in (s.0, live_at (arrives w m).after.threads u s.0 s.1, s.2.term, s.2.serial, s.2.lent);
+      standing = λ u thread e. let s = r.standing u thread (found w.threads u thread e) in (s.0, live_at (arrives_as_built built w m).after.threads u s.0 s.1, s.2.term, s.2.serial, s.2.lent);
       ended = r.ended;
-      new = λ u now none e. r.new u now none (found (arrives w m).after.threads u now e);
+      new = λ u now none e. r.new u now none (found (arrives_as_built built w m).after.threads u now e);
       at_most_one_more = r.at_most_one_more;
       others = r.others;
     }

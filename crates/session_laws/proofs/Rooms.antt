@@ -24,7 +24,7 @@ use Rattle.session_model.specs.Legal.{AreLegal, IsLegalFrom, MayHappen, is_activ
 use Rattle.session_model.specs.Running.{after_step, bursts, interrupted, is_over, lends_thread, now_of, settles, step_of, steps, steps_once, unlent}
 use Rattle.session_model.specs.World.{Thread, World, fresh, start, thread_at}
 use Rattle.session_laws.specs.FactsHold.{HaveRoom}
-use Rattle.session_laws.proofs.EachThread.{Each, Holds, arrives_each, becomes, of_none, set_one}
+use Rattle.session_laws.proofs.EachThread.{Each, Holds, arrived_each, becomes, of_none, set_one}
 use Rattle.session_laws.proofs.Facts.{TermIsSound, interrupted_has, waiting}
 use Rattle.session_laws.proofs.SomeLemmas.{none≢some}
 use Rattle.session_laws.proofs.Threads.{found, get-set_same}
@@ -122,7 +122,7 @@ bursts_roomy rules (suc n) t w lt h = let v : World = (steps rules (suc n) t w).
 -- ---- journals
 
 happens_roomy : (rules : Rules) (w : World) (seat : ℕ) (e : Event) → MayHappen rules w seat e → Each (Roomy rules.built.levels) w.threads → Each (Roomy rules.built.levels) (happens rules w seat e).after.threads
-happens_roomy rules w seat (Arrive m) may h = arrives_each (Roomy rules.built.levels) (new rules.built.levels) (λ thread i m k. k) (λ thread n k. k) w m h
+happens_roomy rules w seat (Arrive m) may h = arrived_each (Roomy rules.built.levels) (new rules.built.levels) (λ thread i m k. k) (λ thread n k. k) rules.built w m h
 happens_roomy rules w seat End may h = h
 happens_roomy rules w seat (Lend t) may h = lends_roomy rules.built.levels w seat t (thread_at w t) refl may h
 happens_roomy rules w seat (Burst t n) may h = bursts_roomy rules n t w may.1 h

@@ -5,6 +5,7 @@ use Rattle.rpc_messages.specs.declared.from_emacs.FromEmacs.TheVariants as mail
 use Rattle.term_model.specs.Breaks.{broken, may_open}
 use Rattle.term_model.specs.Label.{Broke}
 use Rattle.term_model.specs.Term.{split}
+use Rattle.step_model.specs.Built.{Built}
 use Rattle.step_model.specs.Rules.{Rules}
 use Rattle.session_model.specs.declared.event.Entry.{Entry}
 use Rattle.session_model.specs.declared.event.Event.{Event}
@@ -26,15 +27,15 @@ pending_in None = 0
 abbrev pub pending : ℕ → World → ℕ
 pending t w = pending_in (thread_at w t)
 
--- whether a message is an interrupt for this thread, which is live
-abbrev pub interrupts_now : ℕ → World → FromEmacs → Bool
-interrupts_now t w (mail.Interrupt name) = (named w name == t) && is_some (thread_at w t)
-interrupts_now t w m = false
+-- whether a message is an interrupt that is kept for this thread, which is live
+abbrev pub interrupts_now : Built → ℕ → World → FromEmacs → Bool
+interrupts_now built t w (mail.Interrupt name) = built.interrupts && (named w name == t) && is_some (thread_at w t)
+interrupts_now built t w m = false
 
--- whether an event in a world is the arrival of an interrupt for thread t
-abbrev pub interrupts_thread : ℕ → World → Event → Bool
-interrupts_thread t w (Arrive m) = interrupts_now t w m
-interrupts_thread t w event = false
+-- whether an event in a world is the arrival of an interrupt that is kept for thread t
+abbrev pub interrupts_thread : Built → ℕ → World → Event → Bool
+interrupts_thread built t w (Arrive m) = interrupts_now built t w m
+interrupts_thread built t w event = false
 
 -- whether an event in a world is a loan of thread t that takes an interrupt
 abbrev pub takes_interrupt : ℕ → World → Event → Bool
@@ -46,9 +47,9 @@ abbrev pub counted_from : Rules → (World → Event → Bool) → World → Lis
 counted_from rules test w [] = 0
 counted_from rules test w (e ∷ j) = tally (test w e.event) + counted_from rules test (next rules w e).after j
 
--- the interrupts that arrived for thread t, and those that its loans took
+-- the interrupts that arrived for thread t and were kept, and those that its loans took
 abbrev pub arrived : Rules → ℕ → World → List Entry → ℕ
-arrived rules t w j = counted_from rules (interrupts_thread t) w j
+arrived rules t w j = counted_from rules (interrupts_thread rules.built t) w j
 
 abbrev pub taken : Rules → ℕ → World → List Entry → ℕ
 taken rules t w j = counted_from rules (takes_interrupt t) w j
@@ -94,7 +95,7 @@ pub record TakesInterrupt (most : ℕ) (w : World) (seat t : ℕ) (thread : Thre
 
 -- from any world on, for any entries:
 pub record BreaksPromptly (rules : Rules) (w : World) (j : List Entry) (t : ℕ) : Type 0 where
-  -- what is pending of a live thread is what was pending and what arrived for it, less what its loans took
+  -- what is pending of a live thread is what was pending and what arrived for it and was kept, less what its loans took
   pub pending_is : (thread : Thread) → thread_at (run_from rules w j).after t ≡ Some thread → thread.interrupts + taken rules t w j ≡ pending t w + arrived rules t w j
   -- without a loan of the thread nothing is taken, so an interrupt stays until the next loan, and that one takes it
   pub none_taken : loans t j ≡ 0 → taken rules t w j ≡ 0

@@ -4,12 +4,14 @@ use Rattle.rpc_messages.specs.declared.from_emacs.FromEmacs.{FromEmacs}
 use Rattle.rpc_messages.specs.declared.from_emacs.FromEmacs.TheVariants as mail
 use Rattle.rpc_messages.specs.declared.from_emacs.ThreadName.{ThreadName}
 use Rattle.rpc_messages.specs.declared.from_emacs.ThreadName.TheVariants as name
+use Rattle.step_model.specs.Built.{Built}
 use Rattle.step_model.specs.Now.{Now}
 use Rattle.step_model.specs.Rules.{Rules}
 use Rattle.step_model.specs.AsBuilt.{step_as_built}
-use Rattle.session_model.specs.Arriving.{named, requests, requests_by, answers, interrupts, arrives}
+use Rattle.session_model.specs.Arriving.{named, requests, requests_by, answers, interrupts, arrives, arrives_as_built}
 use Rattle.session_model.specs.Running.{lends_thread, now_of, settles, is_over, step_of, steps_once, steps, unlent, bursts}
 use Rattle.session_model.specs.World.{Thread, World, repl, thread_at}
+use Rattle.session_model.proofs.ArrivingLemmas.{arrived_either}
 
 requests_ended : (w : World) (t : ℕ) (id : ℤ) (m : FromEmacs) (o : Option Thread) → (requests w t id m o).after.ended ≡ w.ended
 requests_ended w t id m (Some thread) = refl
@@ -28,12 +30,15 @@ interrupts_ended : (w : World) (t : ℕ) (o : Option Thread) → (interrupts w t
 interrupts_ended w t (Some thread) = refl
 interrupts_ended w t None = refl
 
-pub arrives_ended : (w : World) (m : FromEmacs) → (arrives w m).after.ended ≡ w.ended
+arrives_ended : (w : World) (m : FromEmacs) → (arrives w m).after.ended ≡ w.ended
 arrives_ended w (mail.Rex form «package» thread id) = requests_by_ended w id (mail.Rex form «package» thread id) thread
 arrives_ended w (mail.Interrupt thread) = interrupts_ended w (named w thread) (thread_at w (named w thread))
 arrives_ended w (mail.ReturnString thread tag text) = answers_ended w (named w thread) (mail.ReturnString thread tag text) (thread_at w (named w thread))
 arrives_ended w (mail.Return thread tag value) = answers_ended w (named w thread) (mail.Return thread tag value) (thread_at w (named w thread))
 arrives_ended w (mail.Unreadable packet text) = refl
+
+pub arrived_ended : (built : Built) (w : World) (m : FromEmacs) → (arrives_as_built built w m).after.ended ≡ w.ended
+arrived_ended built w m = arrived_either (λ h. h.after.ended ≡ w.ended) built w m refl (arrives_ended w m)
 
 pub lends_ended : (most : ℕ) (w : World) (seat t : ℕ) (o : Option Thread) → (lends_thread most w seat t o).after.ended ≡ w.ended
 lends_ended most w seat t (Some thread) = refl

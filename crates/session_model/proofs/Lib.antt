@@ -1,3 +1,4 @@
+pub mod ArrivingLemmas
 pub mod Outputs
 pub mod Prefixes
 mod PipeArrivals

@@ -8,12 +8,14 @@ use Rattle.rpc_messages.specs.declared.from_emacs.FromEmacs.{FromEmacs}
 use Rattle.rpc_messages.specs.declared.from_emacs.FromEmacs.TheVariants as mail
 use Rattle.rpc_messages.specs.declared.from_emacs.ThreadName.{ThreadName}
 use Rattle.rpc_messages.specs.declared.from_emacs.ThreadName.TheVariants as name
+use Rattle.step_model.specs.Built.{Built}
 use Rattle.step_model.specs.Now.{Now}
 use Rattle.step_model.specs.Rules.{Rules}
 use Rattle.step_model.specs.AsBuilt.{step_as_built}
-use Rattle.session_model.specs.Arriving.{named, posted, requests, requests_by, answers, interrupts, arrives}
+use Rattle.session_model.specs.Arriving.{named, posted, requests, requests_by, answers, interrupts, arrives, arrives_as_built}
 use Rattle.session_model.specs.Running.{interrupted, after_step, lends_thread, now_of, settles, is_over, step_of, steps_once, steps, unlent, bursts}
 use Rattle.session_model.specs.World.{Thread, World, fresh, repl, thread_in, thread_at}
+use Rattle.session_model.proofs.ArrivingLemmas.{arrived_either}
 
 -- ---- threads by number
 
@@ -99,12 +101,15 @@ interrupts_free : (o : Option ℕ) (w : World) (t : ℕ) (x : Option Thread) →
 interrupts_free o w t (Some thread) is h = keeps_free o w t thread (record thread { interrupts = thread.interrupts + 1 }) is refl h
 interrupts_free o w t None is h = h
 
-pub arrives_free : (o : Option ℕ) (w : World) (m : FromEmacs) → NoneLent o w.threads → NoneLent o (arrives w m).after.threads
+arrives_free : (o : Option ℕ) (w : World) (m : FromEmacs) → NoneLent o w.threads → NoneLent o (arrives w m).after.threads
 arrives_free o w (mail.Rex form «package» thread id) h = requests_by_free o w id (mail.Rex form «package» thread id) thread h
 arrives_free o w (mail.Interrupt thread) h = interrupts_free o w (named w thread) (thread_at w (named w thread)) refl h
 arrives_free o w (mail.ReturnString thread tag text) h = answers_free o w (named w thread) (mail.ReturnString thread tag text) (thread_at w (named w thread)) refl h
 arrives_free o w (mail.Return thread tag value) h = answers_free o w (named w thread) (mail.Return thread tag value) (thread_at w (named w thread)) refl h
 arrives_free o w (mail.Unreadable packet text) h = h
+
+pub arrived_free : (o : Option ℕ) (built : Built) (w : World) (m : FromEmacs) → NoneLent o w.threads → NoneLent o (arrives_as_built built w m).after.threads
+arrived_free o built w m h = arrived_either (λ x. NoneLent o x.after.threads) built w m h (arrives_free o w m h)
 
 -- ---- loans
 

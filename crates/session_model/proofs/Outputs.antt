@@ -21,6 +21,7 @@ use Rattle.session_model.specs.Arriving.{named, not_found, requests, requests_by
 use Rattle.session_model.specs.Journal.{happens, next, run_from, run, outputs}
 use Rattle.session_model.specs.Running.{broke_if, swept, lends_thread, now_of, settles, is_over, step_of, steps_once, steps, unlent, returns}
 use Rattle.session_model.specs.World.{Thread, World, Happened, start, repl, thread_at, tells, silent, then, messages_in}
+use Rattle.session_model.proofs.ArrivingLemmas.{arrived_either}
 
 -- what was written so far
 abbrev written : World → List ToEmacs
@@ -89,7 +90,7 @@ unlent_writes w t (Some thread) = silent_writes w
 unlent_writes w t None = silent_writes w
 
 happens_writes : (rules : Rules) (w : World) (seat : ℕ) (e : Event) → Writes w (happens rules w seat e)
-happens_writes rules w seat (Arrive m) = arrives_writes w m
+happens_writes rules w seat (Arrive m) = arrived_either (Writes w) rules.built w m (silent_writes w) (arrives_writes w m)
 happens_writes rules w seat End = silent_writes w
 happens_writes rules w seat (Lend t) = lends_writes rules.built.levels w seat t (thread_at w t)
 happens_writes rules w seat (Burst t n) =

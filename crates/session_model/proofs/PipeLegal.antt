@@ -22,7 +22,7 @@ use Rattle.session_model.specs.Legal.{waits_in_vain, can_step, is_active, is_len
 use Rattle.session_model.specs.Pipe.{Cursor, Turn, in_order, next_ready, burst_length, feeds, picks, runs, with_place, turns, turn, by_pipe, from_turn, schedule, opening, pipe_journal}
 use Rattle.session_model.specs.Running.{interrupted, lends_thread, steps_once}
 use Rattle.session_model.specs.World.{Thread, World, start, thread_in, thread_at}
-use Rattle.session_model.proofs.Ended.{arrives_ended, lends_ended, bursts_ended}
+use Rattle.session_model.proofs.Ended.{arrived_ended, lends_ended, bursts_ended}
 
 -- ---- lists
 
@@ -138,7 +138,7 @@ runs_follow rules w c t h g =
 -- the next message, or the end
 feeds_follow : (rules : Rules) (w : World) (c : Cursor) (ms : List FromEmacs) → w.closed ≡ false → AllMayArrive ms → IsOpenFor ms w.ended → Follows rules w (feeds w c ms)
 feeds_follow rules w c (m ∷ ms) closed may not_ended =
-    (((not_ended, closed), may.0), record { may_arrive = may.1; is_open = still_open ms (arrives_ended w m ∙ not_ended); is_runnable = tt })
+    (((not_ended, closed), may.0), record { may_arrive = may.1; is_open = still_open ms (arrived_ended rules.built w m ∙ not_ended); is_runnable = tt })
   where
     still_open : {ended : Bool} (rest : List FromEmacs) → ended ≡ false → IsOpenFor rest ended
     still_open [] e = tt

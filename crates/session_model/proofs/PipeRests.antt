@@ -13,7 +13,7 @@ use Rattle.session_model.specs.Journal.{arrived, arrivals, next, run, run_from, 
 use Rattle.session_model.specs.Legal.{max_burst, is_active, is_lent, is_lendable, is_ready, is_idle, are_idle, is_quiet}
 use Rattle.session_model.specs.Pipe.{Cursor, Turn, turn_to, burst_length, numbers, next_ready, feeds, picks, runs, with_place, turns, turn, by_pipe, from_turn, schedule, opening, pipe_journal, IsServed}
 use Rattle.session_model.specs.World.{Thread, World, start, thread_in, thread_at}
-use Rattle.session_model.proofs.Loans.{IsFree, NoneLent, arrives_free, lends_free, bursts_free}
+use Rattle.session_model.proofs.Loans.{IsFree, NoneLent, arrived_free, lends_free, bursts_free}
 use Rattle.session_model.proofs.PipeArrivals.{TakesNext, turns_next}
 
 -- ---- nobody is ready
@@ -91,7 +91,7 @@ same_steps : (n : ℕ) → n ≡ n - 0
 same_steps n = omega arith
 
 feeds_goes_on : (rules : Rules) (w : World) (c : Cursor) (ms : List FromEmacs) → NoneLent None w.threads → GoesOn rules w c (feeds w c ms)
-feeds_goes_on rules w c (m ∷ ms) free = (record { steps = same_steps c.steps; ends = refl }, arrives_free None w m free)
+feeds_goes_on rules w c (m ∷ ms) free = (record { steps = same_steps c.steps; ends = refl }, arrived_free None rules.built w m free)
 feeds_goes_on rules w c [] free = end_if (c.ends && not w.ended)
   where
     end_if : (b : Bool) → GoesOn rules w c (if b then Some (record { event = End; behind = record c { messages = []; reached = 0; lent = None } }) else None)

@@ -1,6 +1,6 @@
 -- Where a message goes that comes from Emacs (`dispatch-event` of SLIME's `swank.lisp`): a request for `t` to a new worker, every
 -- other message to the thread that it names.
-use Rattle.std.specs.Prelude.{ℕ, ℤ, ◌+◌, ◌==◌, not, if◌then◌else◌, List, [], ◌∷◌, ◌++◌, length, filter, Option, Some, None, codes}
+use Rattle.std.specs.Prelude.{ℕ, ℤ, ◌+◌, ◌==◌, Bool, true, false, not, if◌then◌else◌, List, [], ◌∷◌, ◌++◌, length, filter, Option, Some, None, codes}
 use Rattle.std.specs.Fmt.{decimal}
 use Rattle.rpc_messages.specs.declared.from_emacs.FromEmacs.{FromEmacs}
 use Rattle.rpc_messages.specs.declared.from_emacs.FromEmacs.TheVariants as mail
@@ -8,6 +8,7 @@ use Rattle.rpc_messages.specs.declared.from_emacs.ThreadName.{ThreadName}
 use Rattle.rpc_messages.specs.declared.from_emacs.ThreadName.TheVariants as name
 use Rattle.rpc_messages.specs.declared.to_emacs.ToEmacs.TheVariants as message
 use Rattle.term_model.specs.Label.{Routed, Refused, Out}
+use Rattle.step_model.specs.Built.{Built}
 use Rattle.session_model.specs.World.{Thread, World, Happened, fresh, repl, thread_at, with_thread, tells, silent}
 
 -- the worker to which a request was routed last, the thread of the REPL where no worker lives
@@ -72,3 +73,14 @@ arrives w (mail.Interrupt thread) = interrupts w (named w thread) (thread_at w (
 arrives w (mail.ReturnString thread tag text) = answers w (named w thread) (mail.ReturnString thread tag text) (thread_at w (named w thread))
 arrives w (mail.Return thread tag value) = answers w (named w thread) (mail.Return thread tag value) (thread_at w (named w thread))
 arrives w (mail.Unreadable packet text) = tells w (Out (message.ReaderError packet text) ∷ [])
+
+-- an interrupt, where such are kept or aren't: as long as none is, one for a live thread is dropped
+abbrev pub interrupts_if : (kept : Bool) → World → ℕ → Option Thread → Happened
+interrupts_if true w t thread = interrupts w t thread
+interrupts_if false w t (Some thread) = silent w
+interrupts_if false w t None = interrupts w t None
+
+-- a message arrives, as far as that is built: an interrupt for a live thread is dropped as long as none is kept
+abbrev pub arrives_as_built : Built → World → FromEmacs → Happened
+arrives_as_built built w (mail.Interrupt thread) = interrupts_if built.interrupts w (named w thread) (thread_at w (named w thread))
+arrives_as_built built w m = arrives w m

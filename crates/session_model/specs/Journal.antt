@@ -8,7 +8,7 @@ use Rattle.step_model.specs.Rules.{Rules}
 use Rattle.session_model.specs.declared.event.Entry.{Entry}
 use Rattle.session_model.specs.declared.event.Event.{Event}
 use Rattle.session_model.specs.declared.event.Event.TheVariants.{Arrive, End, Lend, Burst, Drain}
-use Rattle.session_model.specs.Arriving.{arrives}
+use Rattle.session_model.specs.Arriving.{arrives_as_built}
 use Rattle.session_model.specs.Running.{lends, bursts}
 use Rattle.session_model.specs.World.{World, Happened, start, silent, then, messages_in}
 
@@ -18,7 +18,7 @@ drains w = record w { drained = w.drained ++ w.undrained; undrained = [] }
 
 -- what an event does and tells
 abbrev pub happens : Rules → World → ℕ → Event → Happened
-happens rules w seat (Arrive m) = arrives w m
+happens rules w seat (Arrive m) = arrives_as_built rules.built w m
 happens rules w seat End = silent (record w { ended = true })
 happens rules w seat (Lend t) = lends rules.built.levels w seat t
 happens rules w seat (Burst t n) = bursts rules w t n

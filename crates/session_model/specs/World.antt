@@ -18,7 +18,7 @@ pub record Thread : Type 0 where
   pub serial : ℕ
   -- the messages that were routed to it and that it hasn't taken
   pub mailbox : Mailbox
-  -- the interrupts that came for it and that no loan has taken
+  -- the interrupts that were kept for it and that no loan has taken
   pub interrupts : ℕ
   -- the seat to which it is lent
   pub lent : Option ℕ

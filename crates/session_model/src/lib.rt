@@ -12,7 +12,7 @@ mod limits;
 
 pub use event::{Entry, Event};
 pub use laws::{
-    a_pipe_is_legal, a_pipe_serves_all, a_pipe_takes_in_order, beginnings_are_legal,
-    outputs_are_kept,
+    a_pipe_is_legal, a_pipe_serves_all, a_pipe_takes_in_order, an_interrupt_is_kept_or_dropped,
+    beginnings_are_legal, outputs_are_kept,
 };
 pub use limits::Limits;

@@ -61,4 +61,4 @@ step_as_built built rules n = step_or_leave built rules (limited built n)
 
 -- all of the table
 abbrev pub all_built : Built
-all_built = record { has_row = λ c f. true; serves = λ form. true; raises = true; levels = max_levels }
+all_built = record { has_row = λ c f. true; serves = λ form. true; raises = true; levels = max_levels; interrupts = true }

@@ -13,3 +13,5 @@ pub record Built : Type 0 where
   pub raises : Bool
   -- how many levels of the debugger are opened
   pub levels : ℕ
+  -- whether an interrupt for a live thread is kept
+  pub interrupts : Bool

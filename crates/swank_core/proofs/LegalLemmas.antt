@@ -25,6 +25,7 @@ use Rattle.session_model.specs.Legal.{can_step, goes_on, is_active, is_lendable,
 use Rattle.session_model.specs.Pipe.{burst_length}
 use Rattle.session_model.specs.Running.{bursts, interrupted, is_over, lends_thread, now_of, settles, step_of, steps, steps_once, unlent}
 use Rattle.session_model.specs.World.{Thread, World, fresh, repl, start, thread_at, thread_in}
+use Rattle.session_model.proofs.ArrivingLemmas.{arrived_either}
 use Rattle.swank_core.specs.Ties.{GoesOn, HasLegal, LentGoOn}
 use Rattle.swank_core.proofs.PlacedLemmas.{each_push, each_set, live_within, thread_set_other, thread_set_same}
 use Rattle.swank_core.proofs.RunLemmas.{run_more}
@@ -174,7 +175,7 @@ lent_steps w seat t (Some thread) e still lent h = ap (λ b. not b && can_step t
 
 pub legal_arrive : (image : ImageState) (j new : List Entry) (seat : ℕ) (m : FromEmacs) → new ≡ j ++ entry seat (Arrive m) ∷ [] → (run rules image j).ended ≡ false → (run rules image j).closed ≡ false → MayArrive m
     → HasLegal image j → HasLegal image new
-legal_arrive image j new seat m is more still may h = has_more image j new (entry seat (Arrive m)) is h ((more, still), may) (arrives_lent (run rules image j) m h.lent)
+legal_arrive image j new seat m is more still may h = has_more image j new (entry seat (Arrive m)) is h ((more, still), may) (arrived_either (λ x. LentGoOn x.after.threads) rules.built (run rules image j) m h.lent (arrives_lent (run rules image j) m h.lent))
 
 pub legal_end : (image : ImageState) (j new : List Entry) (seat : ℕ) → new ≡ j ++ entry seat End ∷ [] → (run rules image j).ended ≡ false → (run rules image j).closed ≡ false → HasLegal image j → HasLegal image new
 legal_end image j new seat is more still h = has_more image j new (entry seat End) is h (more, still) h.lent

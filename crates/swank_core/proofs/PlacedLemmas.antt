@@ -1,4 +1,4 @@
--- What holds of each thread before a place of the journal: its messages came before, and each of its interrupts had a place.
+-- Before each place of the journal the messages of each thread came before it.
 use Rattle.server_rules.specs.Built.{built}
 use Rattle.std.proofs.Common.{◌≡◌, ℕ, ℤ, zero, suc, ◌+◌, ◌<◌, ◌≤◌, Bool, true, false, cond, List, [], ◌∷◌, ◌++◌, length, Option, Some, None, ⊎_elim, refl, sym, ap, ◌∙◌, subst, arith, length-append}
 use Rattle.std.specs.Prelude.{slice_get, slice_set}
@@ -22,9 +22,10 @@ use Rattle.step_model.specs.Now.{Mailbox, Now}
 use Rattle.step_model.specs.Rules.{Rules}
 use Rattle.step_model.specs.AsBuilt.{step_as_built}
 use Rattle.step_model.proofs.Paths.{as_built_path}
-use Rattle.session_model.specs.Arriving.{named, posted, requests, requests_by, answers, interrupts, arrives}
+use Rattle.session_model.specs.Arriving.{named, posted, requests, requests_by, answers, interrupts, arrives, arrives_as_built}
 use Rattle.session_model.specs.Running.{after_step, interrupted, is_over, lends_thread, now_of, settles, step_of, steps_once, steps, unlent, bursts}
 use Rattle.session_model.specs.World.{Thread, World, fresh, repl, thread_in, thread_at}
+use Rattle.session_model.proofs.ArrivingLemmas.{arrived_either}
 use Rattle.swank_core.specs.Live.{ArePlaced, IsPlaced}
 
 -- ---- threads by number
@@ -72,9 +73,7 @@ set_past (x ∷ xs) (suc i) y h = ap (λ ys. x ∷ ys) (set_past xs i y (omega (
 -- ---- a change of the threads
 
 pub placed_later : (at next : ℕ) (threads : List (Option Thread)) → at ≤ next → ArePlaced at threads → ArePlaced next threads
-placed_later at next threads less h = λ t thread e.
-    let p : IsPlaced at thread = h t thread e in
-    record { mail = mail_later thread.mailbox p.mail; interrupts = omega (arith, less, p.interrupts) }
+placed_later at next threads less h = λ t thread e. mail_later thread.mailbox (h t thread e)
   where
     mail_later : (mb : Mailbox) → AllBefore at mb → AllBefore next mb
     mail_later [] all = tt
@@ -156,15 +155,15 @@ step_mail rules at n h = path_mail at (as_built_path rules.built rules n).1 h
 
 -- ---- events
 
-interrupted_placed : (at n : ℕ) (thread : Thread) → thread.interrupts ≡ n → IsPlaced at thread → IsPlaced at (interrupted built.levels n thread)
-interrupted_placed at zero thread e p = p
-interrupted_placed at (suc n) thread e p = record { mail = p.mail; interrupts = omega (arith, e, p.interrupts) }
+interrupted_placed : (at n : ℕ) (thread : Thread) → IsPlaced at thread → IsPlaced at (interrupted built.levels n thread)
+interrupted_placed at zero thread p = p
+interrupted_placed at (suc n) thread p = p
 
 pub lends_placed : (at : ℕ) (w : World) (seat t : ℕ) (o : Option Thread) → thread_at w t ≡ o → ArePlaced at w.threads → ArePlaced at (lends_thread built.levels w seat t o).after.threads
 lends_placed at w seat t None e h = h
 lends_placed at w seat t (Some thread) e h =
-    let p : IsPlaced at (interrupted built.levels thread.interrupts thread) = interrupted_placed at thread.interrupts thread refl (h t thread e) in
-    each_set (IsPlaced at) w.threads t (record (interrupted built.levels thread.interrupts thread) { lent = Some seat }) h (record { mail = p.mail; interrupts = p.interrupts })
+    each_set (IsPlaced at) w.threads t (record (interrupted built.levels thread.interrupts thread) { lent = Some seat }) h
+    (interrupted_placed at thread.interrupts thread (h t thread e))
 
 settles_placed : (at : ℕ) (w : World) (t : ℕ) (thread : Thread) (n : Now) (over : Bool) → ArePlaced at w.threads → IsPlaced at (after_step thread n) → ArePlaced at (settles w t thread n over).after.threads
 settles_placed at w t thread n false h p = each_set (IsPlaced at) w.threads t (after_step thread n) h p
@@ -174,8 +173,7 @@ step_placed : (rules : Rules) (at : ℕ) (w : World) (t : ℕ) (o : Option Threa
 step_placed rules at w t None e h = h
 step_placed rules at w t (Some thread) e h =
     let n : Now = step_as_built rules.built rules (now_of w t thread) in
-    let p : IsPlaced at thread = h t thread e in
-    settles_placed at w t thread n (is_over t n) h (record { mail = step_mail rules at (now_of w t thread) p.mail; interrupts = p.interrupts })
+    settles_placed at w t thread n (is_over t n) h (step_mail rules at (now_of w t thread) (h t thread e))
 
 steps_placed : (rules : Rules) (at n t : ℕ) (w : World) → ArePlaced at w.threads → ArePlaced at (steps rules n t w).after.threads
 steps_placed rules at zero t w h = h
@@ -183,9 +181,7 @@ steps_placed rules at (suc n) t w h = steps_placed rules at n t (steps_once rule
 
 unlent_placed : (at : ℕ) (w : World) (t : ℕ) (o : Option Thread) → thread_at w t ≡ o → ArePlaced at w.threads → ArePlaced at (unlent w t o).threads
 unlent_placed at w t None e h = h
-unlent_placed at w t (Some thread) e h =
-    let p : IsPlaced at thread = h t thread e in
-    each_set (IsPlaced at) w.threads t (record thread { lent = None }) h (record { mail = p.mail; interrupts = p.interrupts })
+unlent_placed at w t (Some thread) e h = each_set (IsPlaced at) w.threads t (record thread { lent = None }) h (h t thread e)
 
 pub bursts_placed : (rules : Rules) (at : ℕ) (w : World) (t n : ℕ) → ArePlaced at w.threads → ArePlaced at (bursts rules w t n).after.threads
 bursts_placed rules at w t n h =
@@ -209,7 +205,7 @@ changed_one at t threads new h p = record {
 }
 
 posted_placed : (at : ℕ) (thread : Thread) (m : FromEmacs) → IsPlaced at thread → IsPlaced (at + 1) (posted thread at m)
-posted_placed at thread m p = record { mail = all_push at thread.mailbox m p.mail; interrupts = omega (arith, p.interrupts) }
+posted_placed at thread m p = all_push at thread.mailbox m p
 
 requests_arrived : (w : World) (t : ℕ) (id : ℤ) (m : FromEmacs) (o : Option Thread) → thread_at w t ≡ o → ArePlaced w.places w.threads → Arrived w.places w.threads (requests w t id m o).after.threads
 requests_arrived w t id m None e h = unchanged w.places w.threads h
@@ -222,21 +218,22 @@ answers_arrived w t m (Some thread) e h = changed_one w.places t w.threads (post
 interrupts_arrived : (w : World) (t : ℕ) (o : Option Thread) → thread_at w t ≡ o → ArePlaced w.places w.threads → Arrived w.places w.threads (interrupts w t o).after.threads
 interrupts_arrived w t None e h = unchanged w.places w.threads h
 interrupts_arrived w t (Some thread) e h =
-    let p : IsPlaced (w.places + 1) thread = placed_later w.places (w.places + 1) w.threads (omega arith) h t thread e in
-    let before : thread.interrupts ≤ w.places = (h t thread e).interrupts in
-    changed_one w.places t w.threads (record thread { interrupts = thread.interrupts + 1 }) h (record { mail = p.mail; interrupts = omega (arith, before) })
+    changed_one w.places t w.threads (record thread { interrupts = thread.interrupts + 1 }) h (placed_later w.places (w.places + 1) w.threads (omega arith) h t thread e)
 
 requests_by_arrived : (w : World) (id : ℤ) (m : FromEmacs) (thread : ThreadName) → ArePlaced w.places w.threads → Arrived w.places w.threads (requests_by w id m thread).after.threads
 requests_by_arrived w id m name.New h = record {
-  placed = each_push (IsPlaced (w.places + 1)) w.threads (fresh ((w.places, m) ∷ [])) (placed_later w.places (w.places + 1) w.threads (omega arith) h) (record { mail = (omega arith, tt); interrupts = omega arith });
+  placed = each_push (IsPlaced (w.places + 1)) w.threads (fresh ((w.places, m) ∷ [])) (placed_later w.places (w.places + 1) w.threads (omega arith) h) (omega arith, tt);
   few = omega (arith, length-append w.threads (Some (fresh ((w.places, m) ∷ [])) ∷ []));
 }
 requests_by_arrived w id m name.Repl h = requests_arrived w repl id m (thread_at w repl) refl h
 requests_by_arrived w id m (name.Id t) h = requests_arrived w t id m (thread_at w t) refl h
 
-pub arrives_arrived : (w : World) (m : FromEmacs) → ArePlaced w.places w.threads → Arrived w.places w.threads (arrives w m).after.threads
+arrives_arrived : (w : World) (m : FromEmacs) → ArePlaced w.places w.threads → Arrived w.places w.threads (arrives w m).after.threads
 arrives_arrived w (mail.Rex form «package» thread id) h = requests_by_arrived w id (mail.Rex form «package» thread id) thread h
 arrives_arrived w (mail.Interrupt thread) h = interrupts_arrived w (named w thread) (thread_at w (named w thread)) refl h
 arrives_arrived w (mail.ReturnString thread tag text) h = answers_arrived w (named w thread) (mail.ReturnString thread tag text) (thread_at w (named w thread)) refl h
 arrives_arrived w (mail.Return thread tag value) h = answers_arrived w (named w thread) (mail.Return thread tag value) (thread_at w (named w thread)) refl h
 arrives_arrived w (mail.Unreadable packet text) h = unchanged w.places w.threads h
+
+pub arrived_arrived : (w : World) (m : FromEmacs) → ArePlaced w.places w.threads → Arrived w.places w.threads (arrives_as_built built w m).after.threads
+arrived_arrived w m h = arrived_either (λ x. Arrived w.places w.threads x.after.threads) built w m (unchanged w.places w.threads h) (arrives_arrived w m h)

@@ -9,10 +9,11 @@ use Rattle.term_model.specs.Label.{messages_in}
 use Rattle.step_model.specs.Image.{ImageState}
 use Rattle.step_model.specs.Rules.{Rules}
 use Rattle.session_model.specs.declared.event.Entry.{Entry}
-use Rattle.session_model.specs.Arriving.{named, requests, requests_by, answers, interrupts, arrives}
+use Rattle.session_model.specs.Arriving.{named, requests, requests_by, answers, interrupts, arrives, arrives_as_built}
 use Rattle.session_model.specs.Journal.{next, run_from, run, steps_of, steps_made}
 use Rattle.session_model.specs.Running.{broke_if, lends_thread, steps_once, steps}
 use Rattle.session_model.specs.World.{Thread, World, Happened, repl, start, thread_at}
+use Rattle.session_model.proofs.ArrivingLemmas.{arrived_either}
 
 -- ---- one entry more
 
@@ -53,12 +54,16 @@ interrupts_aside : (w : World) (t : ℕ) (o : Option Thread) → Aside (interrup
 interrupts_aside w t (Some thread) = record { places = refl; ended = refl; closed = refl; undrained = sym (append-nil w.undrained) }
 interrupts_aside w t None = record { places = refl; ended = refl; closed = refl; undrained = refl }
 
-pub arrives_aside : (w : World) (m : FromEmacs) → Aside (arrives w m) w
+arrives_aside : (w : World) (m : FromEmacs) → Aside (arrives w m) w
 arrives_aside w (mail.Rex form «package» thread id) = requests_by_aside w id (mail.Rex form «package» thread id) thread
 arrives_aside w (mail.Interrupt thread) = interrupts_aside w (named w thread) (thread_at w (named w thread))
 arrives_aside w (mail.ReturnString thread tag text) = answers_aside w (named w thread) (mail.ReturnString thread tag text) (thread_at w (named w thread))
 arrives_aside w (mail.Return thread tag value) = answers_aside w (named w thread) (mail.Return thread tag value) (thread_at w (named w thread))
 arrives_aside w (mail.Unreadable packet text) = record { places = refl; ended = refl; closed = refl; undrained = refl }
+
+pub arrived_aside : (w : World) (m : FromEmacs) → Aside (arrives_as_built built w m) w
+arrived_aside w m =
+    arrived_either (λ h. Aside h w) built w m (record { places = refl; ended = refl; closed = refl; undrained = sym (append-nil w.undrained) }) (arrives_aside w m)
 
 pub broke_says_nothing : (t n : ℕ) (may : Bool) → messages_in (broke_if t n may) ≡ []
 broke_says_nothing t zero may = refl

@@ -1,6 +1,6 @@
 -- The table of live threads: what is found in it, and what a change makes of it.
-use Rattle.std.proofs.Common.{◌≡◌, ℕ, zero, suc, ◌+◌, ◌-◌, ◌<◌, ◌≤◌, Bool, true, false, List, [], ◌∷◌, ◌++◌, length, map, Option, Some, None, ⊎_elim, refl, sym, ap, ◌∙◌, subst, arith, add-one}
-use Rattle.std.specs.Prelude.{◌==◌, ◌&&◌, ◌^◌, ltb, find, IfSome, if◌then◌else◌, slice_get, slice_set, slice_index_or, remove, drop}
+use Rattle.std.proofs.Common.{◌≡◌, ℕ, zero, suc, ◌+◌, ◌<◌, ◌≤◌, Bool, true, false, List, [], ◌∷◌, ◌++◌, length, map, Option, Some, None, ⊎_elim, refl, sym, ap, ◌∙◌, subst, arith, add-one}
+use Rattle.std.specs.Prelude.{◌==◌, ◌&&◌, ◌^◌, ltb, find, is_some, IfNone, IfSome, if◌then◌else◌, slice_get, slice_set, slice_index_or, remove, drop}
 use Rattle.std.specs.List.Sorted.{IsNonDecreasingBy, IsPartitionPoint}
 use Rattle.std.specs.Option.{option_map_or}
 use Rattle.std.proofs.lemmas.Bool.{cases_lt, ltb-false, ltb-true}
@@ -287,6 +287,13 @@ module _ (n : ℕ) (rs : List Record) (place t : ℕ) (r : Record) (h : AreKept 
 pub none_live : (n : ℕ) (rs xs : List Record) (t : ℕ) (now : List (Option Thread)) → AreKept n rs → threads_of n rs ≡ now → xs ≡ rs → found number_of thread_of xs t ≡ None → thread_in now t ≡ None
 none_live n rs xs t now h view same none =
     ap (λ threads. thread_in threads t) (sym view) ∙ no_thread n rs t h (ap (λ ys. found number_of thread_of ys t) (sym same) ∙ none)
+
+-- a place is found where the thread is live
+pub is_found : (n : ℕ) (rs xs : List Record) (t : ℕ) (now : List (Option Thread)) → AreKept n rs → threads_of n rs ≡ now → xs ≡ rs
+    → (o : Option ℕ) → IfSome o (λ at. IsAt xs at t) → IfNone o (found number_of thread_of xs t ≡ None) → is_some o ≡ is_some (thread_in now t)
+is_found n rs xs t now h view same None at none = sym (ap is_some (none_live n rs xs t now h view same none))
+is_found n rs xs t now h view same (Some place) at none =
+    sym (ap is_some (ap (λ threads. thread_in threads t) (sym view) ∙ thread_at_place n rs place t h (subst (λ ys. IsAt ys place t) same at)))
 
 pub long_as : (n m : ℕ) (rs : List Record) (now : List (Option Thread)) → threads_of n rs ≡ now → length now ≡ n
 long_as n m rs now view = ap length (sym view) ∙ length_of n rs

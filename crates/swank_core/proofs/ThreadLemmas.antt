@@ -1,6 +1,6 @@
 -- What a kept thread can do, and what a loan makes of it.
 use Rattle.server_rules.specs.Built.{built}
-use Rattle.std.proofs.Common.{◌≡◌, ◌⊎◌, inl, inr, ⊎_elim, ℕ, zero, suc, ◌+◌, ◌-◌, ◌<◌, Bool, true, false, [], ◌∷◌, ◌++◌, Option, Some, refl, sym, ap, ◌∙◌, arith}
+use Rattle.std.proofs.Common.{◌≡◌, ◌⊎◌, inl, inr, ⊎_elim, ℕ, zero, suc, ◌-◌, ◌<◌, Bool, true, false, [], ◌∷◌, ◌++◌, Option, Some, refl, sym, ap, ◌∙◌, arith}
 use Rattle.std.specs.Prelude.{is_some, not, find, if◌then◌else◌}
 use Rattle.rpc_messages.specs.Waiting.{accepted}
 use Rattle.rpc_messages.specs.declared.from_emacs.FromEmacs.{FromEmacs}

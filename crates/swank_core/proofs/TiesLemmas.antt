@@ -18,7 +18,7 @@ use Rattle.session_model.specs.declared.event.Entry.{Entry}
 use Rattle.session_model.specs.declared.event.Event.{Event}
 use Rattle.session_model.specs.declared.limits.Limits.{Limits}
 use Rattle.session_model.specs.declared.event.Event.TheVariants.{Arrive, End, Lend, Burst, Drain}
-use Rattle.session_model.specs.Arriving.{arrives}
+use Rattle.session_model.specs.Arriving.{arrives_as_built}
 use Rattle.session_model.specs.Journal.{next, run, run_from, steps_of, steps_made}
 use Rattle.session_model.specs.Legal.{IsLentTo, is_lendable, is_ready}
 use Rattle.session_model.specs.Running.{bursts, interrupted, is_over, lends, lends_thread, now_of, settles, step_of, steps, steps_once, unlent}
@@ -28,8 +28,8 @@ use Rattle.swank_core.specs.Drains.{ends_with_drain, is_drain}
 use Rattle.swank_core.specs.Live.{shown, ArePlaced, Does, IsPlaced, LiveState}
 use Rattle.swank_core.specs.Session.{steps_behind}
 use Rattle.swank_core.specs.Ties.{Fits, Ties}
-use Rattle.swank_core.proofs.PlacedLemmas.{Arrived, arrives_arrived, bursts_placed, lends_placed, live_within, placed_later, thread_set_same}
-use Rattle.swank_core.proofs.RunLemmas.{Aside, arrives_aside, broke_says_nothing, lends_aside, run_more, steps_made_more}
+use Rattle.swank_core.proofs.PlacedLemmas.{Arrived, arrived_arrived, bursts_placed, lends_placed, live_within, placed_later, thread_set_same}
+use Rattle.swank_core.proofs.RunLemmas.{Aside, arrived_aside, broke_says_nothing, lends_aside, run_more, steps_made_more}
 
 -- ---- the end of the input, and the steps behind it
 
@@ -69,7 +69,7 @@ entry seat e = record { seat = seat; event = e }
 behind_first : (w : World) (seat : ℕ) (e : Event) (j : List Entry)
     → steps_behind w.ended (entry seat e ∷ j) ≡ steps_behind w.ended (entry seat e ∷ []) + steps_behind (next rules w (entry seat e)).after.ended j
 behind_first w seat (Arrive m) j =
-    let e : steps_behind (w.ended || false) j ≡ steps_behind (arrives w m).after.ended j = ap (λ b. steps_behind b j) (or_false w.ended ∙ sym (arrives_aside w m).ended) in
+    let e : steps_behind (w.ended || false) j ≡ steps_behind (arrives_as_built built w m).after.ended j = ap (λ b. steps_behind b j) (or_false w.ended ∙ sym (arrived_aside w m).ended) in
     omega (arith, e)
 behind_first w seat End j =
     let e : steps_behind (w.ended || true) j ≡ steps_behind true j = ap (λ b. steps_behind b j) (or_true w.ended) in
@@ -140,13 +140,13 @@ behind : (image : ImageState) (j new : List Entry) (seat : ℕ) (e : Event) → 
 behind image j new seat e is = ap (steps_behind false) is ∙ behind_more image j (entry seat e)
 
 pub ties_arrive : (image : ImageState) (j new : List Entry) (seat : ℕ) (m : FromEmacs) (live later : LiveState) (outs told all : List ToEmacs) (n k : ℕ) (ended failed : Bool)
-    → new ≡ j ++ entry seat (Arrive m) ∷ [] → all ≡ outs ++ told → ((w : World) → w.places ≡ length j → live ≡ shown w → Does (arrives w m) later told) → failed ≡ false
+    → new ≡ j ++ entry seat (Arrive m) ∷ [] → all ≡ outs ++ told → ((w : World) → w.places ≡ length j → live ≡ shown w → Does (arrives_as_built built w m) later told) → failed ≡ false
     → Ties (run rules image j) j live outs n k ended failed → Ties (run rules image new) new later all n k ended failed
 ties_arrive image j new seat m live later outs told all n k ended failed is sum does whole h =
     let w : World = run rules image j in
-    let a : Aside (arrives w m) w = arrives_aside w m in
-    let d : Does (arrives w m) later told = does w (sym h.places_are) (h.live_is whole) in
-    let p : Arrived w.places w.threads (arrives w m).after.threads = arrives_arrived w m h.placed in
+    let a : Aside (arrives_as_built built w m) w = arrived_aside w m in
+    let d : Does (arrives_as_built built w m) later told = does w (sym h.places_are) (h.live_is whole) in
+    let p : Arrived w.places w.threads (arrives_as_built built w m).after.threads = arrived_arrived w m h.placed in
     ties_more image j new (entry seat (Arrive m)) later all n k ended failed is (record {
       outs_are = sum ∙ ap (λ x. x ++ told) h.outs_are ∙ ap (λ x. w.undrained ++ x) d.outs_are ∙ sym a.undrained;
       places_are = longer j new _ is ∙ ap (λ x. x + 1) (h.places_are ∙ sym a.places);
@@ -154,7 +154,7 @@ ties_arrive image j new seat m live later outs told all n k ended failed is sum 
       after_are = omega (arith, h.after_are, behind image j new seat (Arrive m) is, none_behind w.ended seat (Arrive m) refl);
       ended_is = h.ended_is ∙ sym a.ended;
       still = a.closed ∙ h.still;
-      placed = subst (λ x. ArePlaced (x + 1) (arrives w m).after.threads) (sym a.places) p.placed;
+      placed = subst (λ x. ArePlaced (x + 1) (arrives_as_built built w m).after.threads) (sym a.places) p.placed;
       few = omega (arith, h.few, p.few, a.places);
       live_is = λ f. d.live;
     })
@@ -260,7 +260,7 @@ ties_open image j live outs empty none is =
   where
     first_placed : (t : ℕ) (thread : Thread) → thread_in (None ∷ Some (fresh []) ∷ []) t ≡ Some thread → IsPlaced 0 thread
     first_placed zero thread e = absurd (none-some thread e)
-    first_placed (suc zero) thread e = subst (IsPlaced 0) (same_Some (fresh []) thread e) (record { mail = tt; interrupts = omega arith })
+    first_placed (suc zero) thread e = subst (IsPlaced 0) (same_Some (fresh []) thread e) tt
     first_placed (suc (suc t)) thread e = absurd (none-some thread e)
 
 -- ---- room and ranges

@@ -1,5 +1,5 @@
 -- The image, the threads and the workers of a session, as the code keeps them beside the rest of its world.
-use Rattle.std.specs.Prelude.{◌≡◌, ℕ, ◌≤◌, List, Option, Some}
+use Rattle.std.specs.Prelude.{◌≡◌, ℕ, List, Option, Some}
 use Rattle.rpc_messages.specs.declared.to_emacs.ToEmacs.{ToEmacs}
 use Rattle.term_model.specs.Label.{messages_in}
 use Rattle.mailboxes.specs.Mail.{AllBefore}
@@ -22,10 +22,9 @@ pub record Does (h : Happened) (new : LiveState) (outs : List ToEmacs) : Type 0 
   pub live : new ≡ shown h.after
   pub outs_are : outs ≡ messages_in h.labels
 
--- what holds of a thread before this place of the journal: its messages came before, and each of its interrupts had a place
-pub record IsPlaced (at : ℕ) (thread : Thread) : Type 0 where
-  pub mail : AllBefore at thread.mailbox
-  pub interrupts : thread.interrupts ≤ at
+-- the thread's messages came before this place of the journal
+abbrev pub IsPlaced : ℕ → Thread → Type 0
+IsPlaced at thread = AllBefore at thread.mailbox
 
 abbrev pub ArePlaced : ℕ → List (Option Thread) → Type 0
 ArePlaced at threads = (t : ℕ) (thread : Thread) → thread_in threads t ≡ Some thread → IsPlaced at thread

@@ -1,6 +1,6 @@
 -- A live thread as it is kept, and the table of them.
 use Rattle.server_rules.specs.Built.{built}
-use Rattle.std.specs.Prelude.{◌≡◌, ℕ, ◌+◌, ◌≤◌, ◌^◌, true, List, [], ◌∷◌, Option, Some, drop, slice_get, slice_set}
+use Rattle.std.specs.Prelude.{◌≡◌, ℕ, ◌≤◌, ◌^◌, true, List, [], ◌∷◌, Option, Some, drop, slice_get, slice_set}
 use Rattle.std.specs.Option.{option_map_or}
 use Rattle.server_rules.specs.Simple.{are_simple}
 use Rattle.session_model.specs.Running.{interrupted}
@@ -54,7 +54,3 @@ changed change t threads = option_map_or (λ thread. slice_set threads t (Some (
 -- a loan takes a pending interrupt
 abbrev pub lent_to : ℕ → Thread → Thread
 lent_to seat thread = record (interrupted built.levels thread.interrupts thread) { lent = Some seat }
-
--- one interrupt more is pending
-abbrev pub interrupted_once : Thread → Thread
-interrupted_once thread = record thread { interrupts = thread.interrupts + 1 }

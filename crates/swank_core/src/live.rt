@@ -1,9 +1,10 @@
 ghost use Rattle.server_rules.specs.Built.{built};
-ghost use Rattle.std.specs.Prelude.{◌≡◌, ◌+◌, ◌<◌, ◌≤◌, ◌^◌, ℕ, Some, length, false, true, is_some, IfOk};
+ghost use Rattle.std.specs.Prelude.{◌≡◌, ◌+◌, ◌<◌, ◌≤◌, ◌^◌, length, false, true, is_some, IfOk};
 ghost use Rattle.mailboxes.specs.Mail.{IsMail};
+ghost use Rattle.rpc_messages.specs.declared.from_emacs.FromEmacs.TheVariants as mail;
 ghost use Rattle.session_model.specs.Arriving as spec;
 ghost use Rattle.session_model.specs.Running.{lends};
-ghost use Rattle.session_model.specs.World.{start, thread_at, thread_in, Thread, World};
+ghost use Rattle.session_model.specs.World.{start, thread_at, thread_in, World};
 ghost use Rattle.swank_core.specs.Bursts.{Bursts};
 ghost use Rattle.swank_core.specs.Live.{shown, Does, ArePlaced};
 
@@ -114,7 +115,7 @@ impl Live {
         requires placed { ArePlaced at self.old.threads }
         requires few { length self.old.threads ≤ at + 2 }
         requires early { at < 2 ^ 62 }
-        ensures { IfOk result (λ outs. (w : World) → w.places ≡ at → self.old ≡ shown w → Does (spec.arrives w m.now) self.new outs) }
+        ensures { IfOk result (λ outs. (w : World) → w.places ≡ at → self.old ≡ shown w → Does (spec.arrives_as_built built w m.now) self.new outs) }
     {
         match m {
             FromEmacs::Rex { thread, id, .. } => self.request_by(alloc, at, thread, *id, m),
@@ -207,14 +208,13 @@ impl Live {
         Ok(Rows::new(alloc))
     }
 
-    /// An interrupt of the thread of this name.
-    fn interrupt(&mut self, alloc: Global, name: &ThreadName) -> Result<Rows<ToEmacs>, NoMemory>
-        requires few { (t : ℕ) (thread : Thread) → thread_in self.old.threads t ≡ Some thread → thread.interrupts < 2 ^ 63 }
-        ensures { IfOk result (λ outs. (w : World) → self.old ≡ shown w → Does (spec.interrupts w (spec.named w name.now) (thread_at w (spec.named w name.now))) self.new outs) }
+    /// An interrupt of the thread of this name. For a thread that is live it is dropped.
+    fn interrupt(&self, alloc: Global, name: &ThreadName) -> Result<Rows<ToEmacs>, NoMemory>
+        ensures { IfOk result (λ outs. (w : World) → self.now ≡ shown w → Does (spec.arrives_as_built built w (mail.Interrupt name.now)) self.now outs) }
     {
         let mut outs = Rows::new(alloc);
         let t = self.named(name);
-        if !self.threads.interrupt(t) {
+        if !self.threads.is_live(t) {
             outs.push(ToEmacs::DebugCondition {
                 thread: t,
                 text: not_found(alloc, t)?,

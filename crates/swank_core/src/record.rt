@@ -1,4 +1,4 @@
-ghost use Rattle.std.specs.Prelude.{◌≡◌, ◌+◌, ◌<◌, ◌^◌, [], Some, None, true, OnOk};
+ghost use Rattle.std.specs.Prelude.{◌≡◌, [], Some, None, true, OnOk};
 ghost use Rattle.mailboxes.specs.Mail.{AllBefore, IsMail};
 ghost use Rattle.server_rules.specs.Simple.{are_simple};
 ghost use Rattle.session_model.specs.Arriving.{posted};
@@ -17,7 +17,7 @@ use std::alloc::Global;
 pub struct Record {
     pub machine: Machine,
     pub mailbox: Mailbox,
-    /// The interrupts that no loan has taken.
+    /// The interrupts that were kept and that no loan has taken.
     pub interrupts: u64,
     /// The seat to which the thread is lent.
     pub lent: Option<u64>,
@@ -105,15 +105,6 @@ impl Record {
         ensures machine { self.new.machine ≡ self.old.machine }
     {
         self.mailbox.post(at, m)
-    }
-
-    /// An interrupt came: it stays pending until the thread is lent.
-    pub fn interrupt(&mut self)
-        requires few { self.old.interrupts < 2 ^ 63 }
-        ensures thread { thread_of self.new ≡ record (thread_of self.old) { interrupts = self.old.interrupts + 1 } }
-        ensures machine { self.new.machine ≡ self.old.machine }
-    {
-        self.interrupts += 1;
     }
 
     /// Lends the thread, which takes a pending interrupt.

@@ -1,6 +1,6 @@
 //! Sessions of a message each, run by hand.
-ghost use Rattle.std.specs.Prelude.{◌≡◌, false, IfOk};
-ghost use Rattle.session_model.specs.Legal.{IsSmallName, MayArrive};
+ghost use Rattle.std.specs.Prelude.{◌≡◌, ◌≤◌, false, IfOk};
+ghost use Rattle.session_model.specs.Legal.{IsSmallName, MayArrive, max_burst};
 ghost use Rattle.swank_core.specs.Session.{world};
 
 use crate::{Core, Entry, Event, Limits};
@@ -53,19 +53,31 @@ fn is_reply(outs: &Rows<ToEmacs>) -> bool {
     )
 }
 
+/// Makes a burst of a thread that is ready, and gives the number of its steps.
+fn burst(core: &mut Core, t: u64, max: u64) -> u64
+    requires whole { core.old.failed ≡ false }
+    requires some { 1 ≤ max }
+    requires most { max ≤ max_burst }
+{
+    if !core.ready(t) {
+        return 0;
+    }
+    match core.lend(0, t) {
+        Err(_) => 0,
+        Ok(loan) => core.commit(0, loan, max).unwrap_or(0),
+    }
+}
+
 /// Whether a message makes the thread of this number write one reply, in a burst of some steps, and leaves the session quiet.
 fn answers(core: &mut Core, m: FromEmacs, t: u64) -> bool
     requires whole { core.old.failed ≡ false }
     requires open { (world core.old).ended ≡ false }
     requires may { MayArrive m }
 {
-    if core.arrive(0, m).is_err() || core.next_ready(0) != Some(t) || !core.ready(t) {
+    if core.arrive(0, m).is_err() || core.next_ready(0) != Some(t) {
         return false;
     }
-    let steps = match core.lend(0, t) {
-        Err(_) => 0,
-        Ok(loan) => core.commit(0, loan, 256).unwrap_or(0),
-    };
+    let steps = burst(core, t, 256);
     if core.failed() || core.undrained() == 0 {
         return false;
     }
@@ -93,6 +105,38 @@ fn a_worker_ends_with_its_reply(rt: HostRuntime) -> Result<(), Fail> {
     let m = request(alloc, ThreadName::New)?;
     let mut core = session(alloc)?;
     let answered = answers(&mut core, m, 2) && core.next_ready(0).is_none() && core.lent() == 0;
+    assert!(rt; answered);
+    Ok(())
+}
+
+/// Whether the REPL's thread, which has taken this request, answers it though an interrupt comes for the thread.
+fn goes_on(core: &mut Core, m: FromEmacs) -> bool
+    requires whole { core.old.failed ≡ false }
+    requires open { (world core.old).ended ≡ false }
+    requires may { MayArrive m }
+{
+    if core.arrive(0, m).is_err() || burst(core, 1, 1) != 1 || core.failed() || core.ended() {
+        return false;
+    }
+    let interrupt = FromEmacs::Interrupt {
+        thread: ThreadName::Repl,
+    };
+    if core.arrive(0, interrupt).is_err() || burst(core, 1, 256) == 0 {
+        return false;
+    }
+    if core.failed() || core.undrained() == 0 {
+        return false;
+    }
+    let outs = core.drain(0);
+    is_reply(&outs) && core.quiet()
+}
+
+#[test]
+fn an_interrupt_of_a_live_thread_is_dropped(rt: HostRuntime) -> Result<(), Fail> {
+    let alloc = rt.alloc();
+    let m = request(alloc, ThreadName::Repl)?;
+    let mut core = session(alloc)?;
+    let answered = goes_on(&mut core, m);
     assert!(rt; answered);
     Ok(())
 }

@@ -8,7 +8,7 @@ ghost use Rattle.session_model.specs.World.{fresh, thread_in, World};
 ghost use Rattle.swank_core.specs.Bursts.{IsBurst};
 ghost use Rattle.swank_core.specs.Kept.{first, found, AreAscending};
 ghost use Rattle.swank_core.specs.Session.{lent_among};
-ghost use Rattle.swank_core.specs.Threads.{changed, interrupted_once, lent_to, number_of, thread_of, IsAt, IsPlace};
+ghost use Rattle.swank_core.specs.Threads.{changed, lent_to, number_of, thread_of, IsAt, IsPlace};
 
 use crate::burst::{Run, make_steps, sweep};
 use crate::record::Record;
@@ -101,6 +101,13 @@ impl Threads {
         Ok(Threads { records, next: 2 })
     }
 
+    /// Whether the thread of this number is live.
+    pub fn is_live(&self, t: u64) -> bool
+        ensures { result ≡ is_some (thread_in self.now t) }
+    {
+        find(&self.records, t).is_some()
+    }
+
     /// Whether a thread that is live may be lent.
     pub fn is_lendable(&self, t: u64) -> bool
         ensures { result ≡ option_map_or is_lendable (thread_in self.now t) false }
@@ -176,22 +183,6 @@ impl Threads {
                 let copy = copy_of(alloc, m)?;
                 self.records[place].post(at, copy)?;
                 Ok(true)
-            }
-        }
-    }
-
-    /// Notes an interrupt. It says whether the thread is live; where it isn't, nothing changes.
-    pub fn interrupt(&mut self, t: u64) -> bool
-        requires few { IfSome (thread_in self.old t) (λ thread. thread.interrupts < 2 ^ 63) }
-        ensures live { result ≡ is_some (thread_in self.old t) }
-        ensures noted { self.new ≡ changed interrupted_once t self.old }
-        ensures long { length self.new ≡ length self.old }
-    {
-        match find(&self.records, t) {
-            None => false,
-            Some(place) => {
-                self.records[place].interrupt();
-                true
             }
         }
     }

@@ -100,7 +100,13 @@ const MESSAGES: &str = r#"> (:emacs-rex (swank:interactive-eval "42") "COMMON-LI
 
 > (:emacs-interrupt :repl-thread)
 > (:emacs-rex (swank:interactive-eval "1") "COMMON-LISP-USER" :repl-thread 1)
+> (:emacs-interrupt 1)
+> (:emacs-interrupt t)
+> (:emacs-rex (swank:interactive-eval "2") "COMMON-LISP-USER" 1 2)
+> (:emacs-rex (swank:interactive-eval "3") "COMMON-LISP-USER" t 3)
 < (:return (:ok "=> 1") 1)
+< (:return (:ok "=> 2") 2)
+< (:return (:ok "=> 3") 3)
 
 > (:emacs-return-string 1 1 "nobody asked")
 > (:emacs-return-string 99 1 "nobody is there")
@@ -118,6 +124,21 @@ const MESSAGES: &str = r#"> (:emacs-rex (swank:interactive-eval "42") "COMMON-LI
 #[test]
 fn messages_go_to_the_threads_that_they_name(rt: HostRuntime) -> Result<(), Fail> {
     assert_eq!(rt; first_wrong(rt.alloc(), MESSAGES)?, 0);
+    Ok(())
+}
+
+/// Whether an interrupt for the REPL's thread is an event of its own alone, and what follows is answered.
+fn interrupts_are_dropped(alloc: Global) -> Result<bool, NoMemory> {
+    let interrupt = "00001f(:emacs-interrupt :repl-thread)";
+    let octets = joined(alloc, &[interrupt, EVALUATION])?;
+    let ran = ran(alloc, Given::pipe(octets.as_slice()))?;
+    let events = "Arrive Arrive Lend(2) Burst(2,6) Drain(1) End ";
+    Ok(ran.events.as_str() == events && left(ran, ANSWER, Status::Ok))
+}
+
+#[test]
+fn an_interrupt_of_a_live_thread_is_dropped(rt: HostRuntime) -> Result<(), Fail> {
+    assert!(rt; interrupts_are_dropped(rt.alloc())?);
     Ok(())
 }
 

@@ -15,8 +15,8 @@ use Rattle.session_model.specs.Legal.{IsLegalFrom, is_quiet}
 use Rattle.session_model.specs.Pipe.{Cursor, by_pipe}
 use Rattle.session_model.specs.Wire.{text_of, frames}
 use Rattle.session_model.specs.World.{World, thread_at}
-use Rattle.session_model.proofs.Ended.{arrives_ended, lends_ended, bursts_ended}
-use Rattle.session_model.proofs.Loans.{NoneLent, arrives_free, lends_free, bursts_free}
+use Rattle.session_model.proofs.Ended.{arrived_ended, lends_ended, bursts_ended}
+use Rattle.session_model.proofs.Loans.{NoneLent, arrived_free, lends_free, bursts_free}
 use Rattle.session_model.proofs.Outputs.{outputs_are_written}
 use Rattle.server_laws.specs.Small.{AreSmall, FitsPacket, HasShortNames, IsSmall}
 use Rattle.server_laws.proofs.Sessions.{outputs_fit}
@@ -26,7 +26,7 @@ use Rattle.swank_core.specs.declared.fault.CoreFault.{CoreFault}
 use Rattle.swank_core.specs.declared.fault.CoreFault.TheVariants as fault
 use Rattle.swank_session.specs.Course.{steps_left, whole, IsFramed, IsLive, IsFree, IsPaused, Later, Reaches, closed, full, Halts, halt_of, Sent, Paid, Pays}
 use Rattle.swank_session.specs.declared.ends.Halt.TheVariants as halt
-use Rattle.swank_session.proofs.RunLemmas.{arrivals-last, steps_made-last, arrives_drained, bursts_drained, lends_silent}
+use Rattle.swank_session.proofs.RunLemmas.{arrivals-last, steps_made-last, arrived_drained, bursts_drained, lends_silent}
 use Rattle.swank_session.proofs.ScheduleLemmas.{HasPlace, world-entry, whole-begins, drains-next, closed-stops, full-stops}
 
 -- ---- any entry
@@ -191,12 +191,12 @@ came-by s new m small h is =
       limits = ap (λ (x : Session). x.limits) is;
       halted = ap (λ (x : Session). x.halted) is;
       longer = more-entry s new (Arrive m) is;
-      drained = ap (λ (x : World). x.drained) w ∙ arrives_drained (world s) m;
+      drained = ap (λ (x : World). x.drained) w ∙ arrived_drained rules.built (world s) m;
       arrived = ap (λ (x : Session). arrivals x.journal) is ∙ arrivals-last s.journal (by_pipe (Arrive m));
-      ended = ap (λ (x : World). x.ended) w ∙ arrives_ended (world s) m;
+      ended = ap (λ (x : World). x.ended) w ∙ arrived_ended rules.built (world s) m;
       free = record {
         live = live-entry s new (Arrive m) is (small, tt) (no_step (steps_made s.journal) s.limits.steps h.live.within) h.live;
-        free = subst (λ (x : World). NoneLent None x.threads) (sym w) (arrives_free None (world s) m h.free);
+        free = subst (λ (x : World). NoneLent None x.threads) (sym w) (arrived_free None rules.built (world s) m h.free);
       };
     }
 

@@ -9,6 +9,7 @@ use Rattle.rpc_messages.specs.declared.from_emacs.ThreadName.TheVariants as name
 use Rattle.term_model.specs.Breaks.{may_open}
 use Rattle.term_model.specs.Label.{Label}
 use Rattle.term_model.specs.Term.{split}
+use Rattle.step_model.specs.Built.{Built}
 use Rattle.step_model.specs.Image.{ImageState}
 use Rattle.step_model.specs.Now.{Now}
 use Rattle.step_model.specs.Rules.{Rules}
@@ -16,10 +17,11 @@ use Rattle.step_model.specs.AsBuilt.{step_as_built}
 use Rattle.session_model.specs.declared.event.Entry.{Entry}
 use Rattle.session_model.specs.declared.event.Event.{Event}
 use Rattle.session_model.specs.declared.event.Event.TheVariants.{Arrive, End, Lend, Burst, Drain}
-use Rattle.session_model.specs.Arriving.{named, requests, requests_by, answers, interrupts, arrives}
+use Rattle.session_model.specs.Arriving.{named, requests, requests_by, answers, interrupts, arrives, arrives_as_built}
 use Rattle.session_model.specs.Journal.{arrived, arrivals, next, run, run_from, steps_of, steps_made}
 use Rattle.session_model.specs.Running.{broke_if, lends_thread, now_of, settles, is_over, step_of, steps_once, steps, unlent, bursts}
 use Rattle.session_model.specs.World.{Thread, World, start, repl, thread_in, thread_at, messages_in}
+use Rattle.session_model.proofs.ArrivingLemmas.{arrived_either}
 
 -- ---- one entry more
 
@@ -70,12 +72,15 @@ interrupts_drained : (w : World) (t : ℕ) (o : Option Thread) → (interrupts w
 interrupts_drained w t (Some thread) = refl
 interrupts_drained w t None = refl
 
-pub arrives_drained : (w : World) (m : FromEmacs) → (arrives w m).after.drained ≡ w.drained
+arrives_drained : (w : World) (m : FromEmacs) → (arrives w m).after.drained ≡ w.drained
 arrives_drained w (mail.Rex form «package» thread id) = requests_by_drained w id (mail.Rex form «package» thread id) thread
 arrives_drained w (mail.Interrupt thread) = interrupts_drained w (named w thread) (thread_at w (named w thread))
 arrives_drained w (mail.ReturnString thread tag text) = answers_drained w (named w thread) (mail.ReturnString thread tag text) (thread_at w (named w thread))
 arrives_drained w (mail.Return thread tag value) = answers_drained w (named w thread) (mail.Return thread tag value) (thread_at w (named w thread))
 arrives_drained w (mail.Unreadable packet text) = refl
+
+pub arrived_drained : (built : Built) (w : World) (m : FromEmacs) → (arrives_as_built built w m).after.drained ≡ w.drained
+arrived_drained built w m = arrived_either (λ h. h.after.drained ≡ w.drained) built w m refl (arrives_drained w m)
 
 settles_drained : (w : World) (t : ℕ) (thread : Thread) (n : Now) (over : Bool) → (settles w t thread n over).after.drained ≡ w.drained
 settles_drained w t thread n true = refl
@@ -177,7 +182,7 @@ unlent_empty w t (Some thread) is h = set_empty w.threads t thread _ is h
 unlent_empty w t None is h = h
 
 next_empty : (rules : Rules) (w : World) (seat : ℕ) (e : Event) → StartsEmpty w.threads → StartsEmpty (next rules w (record { seat = seat; event = e })).after.threads
-next_empty rules w seat (Arrive m) h = arrives_empty w m h
+next_empty rules w seat (Arrive m) h = arrived_either (λ x. StartsEmpty x.after.threads) rules.built w m h (arrives_empty w m h)
 next_empty rules w seat End h = h
 next_empty rules w seat (Lend t) h = lends_empty rules.built.levels w seat t (thread_at w t) refl h
 next_empty rules w seat (Burst t n) h = let v : World = (steps rules n t w).after in unlent_empty v t (thread_at v t) refl (steps_empty rules n t w h)

@@ -1,4 +1,4 @@
-use Rattle.std.proofs.Common.{◌+◌, true, false, refl, sym, ◌∙◌, subst, arith}
+use Rattle.std.proofs.Common.{◌+◌, refl, sym, ◌∙◌, subst, arith}
 use Rattle.swank_core.specs.Bursts.{Runs, Steps}
 use Rattle.swank_core.proofs.BurstLemmas.{going_start, going_shows, going_on, going_over, going_waits, world_of}
 use Rattle.swank_core.proofs.burst.make_steps.Goals as goal

@@ -12,4 +12,4 @@ some_of P (Some thread) h = h thread refl
 pub post-requires-clause-later : goal.post-requires-clause-later
 post-requires-clause-later c =
     let t = c.named-t.result in
-    some_of (λ thread. AllBefore c.args.at thread.mailbox) (thread_in c.self.inside.threads t) (λ thread e. (c.requires.placed t thread (ap (λ (l : LiveState). thread_in l.threads t) (sym c.self.view_is) ∙ e)).mail)
+    some_of (λ thread. AllBefore c.args.at thread.mailbox) (thread_in c.self.inside.threads t) (λ thread e. c.requires.placed t thread (ap (λ (l : LiveState). thread_in l.threads t) (sym c.self.view_is) ∙ e))

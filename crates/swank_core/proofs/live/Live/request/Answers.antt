@@ -15,7 +15,7 @@ some_of P (Some thread) h = h thread refl
 pub post-requires-clause-later : goal.post-requires-clause-later
 post-requires-clause-later c =
     let t = c.args.t in
-    some_of (λ thread. AllBefore c.args.at thread.mailbox) (thread_in c.self.inside.threads t) (λ thread e. (c.requires.placed t thread (ap (λ (l : LiveState). thread_in l.threads t) (sym c.self.view_is) ∙ e)).mail)
+    some_of (λ thread. AllBefore c.args.at thread.mailbox) (thread_in c.self.inside.threads t) (λ thread e. c.requires.placed t thread (ap (λ (l : LiveState). thread_in l.threads t) (sym c.self.view_is) ∙ e))
 
 pub route-requires : goal.route-requires
 route-requires c = record { distinct = are_distinct (length c.self.inside.threads) _ c.self.invariant }
