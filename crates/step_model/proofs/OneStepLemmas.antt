@@ -193,23 +193,52 @@ AreSteady [] = Unit {0}
 AreSteady (name ∷ more) = IsSteady (cl name) × AreSteady more
 
 all_steady : AreSteady listed_functions
-all_steady =
-    (steady (cl (codes "+")) op.Plus refl plus,
-    (steady (cl (codes "-")) op.Minus refl minus,
-    (steady (cl (codes "*")) op.Times refl times,
-    (steady (cl (codes "1+")) op.OnePlus refl one_plus,
-    (steady (cl (codes "1-")) op.OneMinus refl one_minus,
-    (steady (cl (codes "=")) op.NumbersEqual refl equal,
-    (steady (cl (codes "<")) op.Less refl less,
-    (steady (cl (codes ">")) op.Greater refl greater,
-    (steady (cl (codes "<=")) op.AtMost refl at_most,
-    (steady (cl (codes ">=")) op.AtLeast refl at_least,
-    (steady (cl (codes "NULL")) op.Null refl is_null,
-    (steady (cl (codes "NOT")) op.Not refl is_not,
-    (steady (cl (codes "EQ")) op.Eq refl is_eq,
-    (steady (cl (codes "CAR")) op.Car refl car,
-    (steady (cl (codes "CDR")) op.Cdr refl cdr,
-    tt)))))))))))))))
+all_steady = (
+  steady (cl (codes "+")) op.Plus refl plus,
+  (
+    steady (cl (codes "-")) op.Minus refl minus,
+    (
+      steady (cl (codes "*")) op.Times refl times,
+      (
+        steady (cl (codes "1+")) op.OnePlus refl one_plus,
+        (
+          steady (cl (codes "1-")) op.OneMinus refl one_minus,
+          (
+            steady (cl (codes "=")) op.NumbersEqual refl equal,
+            (
+              steady (cl (codes "<")) op.Less refl less,
+              (
+                steady (cl (codes ">")) op.Greater refl greater,
+                (
+                  steady (cl (codes "<=")) op.AtMost refl at_most,
+                  (
+                    steady (cl (codes ">=")) op.AtLeast refl at_least,
+                    (
+                      steady (cl (codes "NULL")) op.Null refl is_null,
+                      (
+                        steady (cl (codes "NOT")) op.Not refl is_not,
+                        (
+                          steady (cl (codes "EQ")) op.Eq refl is_eq,
+                          (
+                            steady (cl (codes "CAR")) op.Car refl car,
+                            (
+                              steady (cl (codes "CDR")) op.Cdr refl cdr,
+                              tt,
+                            ),
+                          ),
+                        ),
+                      ),
+                    ),
+                  ),
+                ),
+              ),
+            ),
+          ),
+        ),
+      ),
+    ),
+  ),
+)
 
 -- a symbol of that name is that of COMMON-LISP
 named_is : (g : Symbol) (name : List ℕ) → names g name ≡ true → g ≡ cl name
