@@ -1,0 +1,4 @@
+pub mod LevelLemmas
+pub mod GoingLemmas
+pub mod FormLemmas
+pub mod ExitLemmas

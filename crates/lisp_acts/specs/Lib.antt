@@ -1,0 +1,3 @@
+pub mod Amid
+pub mod Runs
+pub mod Exits
